@@ -1,0 +1,5 @@
+use Rattle.fb_base.proofs.Views.{from_entries-insert}
+use Rattle.fb_base.proofs.mem_sink.MemSink.fail_at.Goals as goal
+
+pub returns-clause-added : goal.returns-clause-added
+returns-clause-added c = λ _. rw (← c.self.view_is, from_entries-insert c.self.inside.to_fail c.insert.new.self c.args.call c.args.taken c.in_ok-insert.ensures.updates)
