@@ -1,0 +1,7 @@
+pub mod Digits
+pub mod Places
+pub mod Grammar
+pub mod Worth
+pub mod Law
+pub mod Printed
+pub mod RoundTrip
