@@ -69,7 +69,7 @@ fn append(bytes: &mut Vec<u8>, piece: &[u8], limit: usize) -> Result<(), AllocEr
 }
 
 /// All that the reader has left, if that is at most `limit` bytes. An `Err` of the reader is a failure.
-fn read_all<F: Read>(alloc: Global, reader: &mut F, limit: u64) -> Result<Vec<u8>, Fetch>
+pub(crate) fn read_all<F: Read>(alloc: Global, reader: &mut F, limit: u64) -> Result<Vec<u8>, Fetch>
     ensures all { IfOk result (λ bytes. IfSome (F.remaining reader.old) (λ left. bytes.items ≡ left)) }
     ensures within { IfOk result (λ bytes. length bytes.items ≤ limit) }
     ensures too_long { IsTooLong result → IfSome (F.remaining reader.old) (λ left. limit < length left) }

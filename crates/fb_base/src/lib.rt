@@ -16,3 +16,6 @@ pub use mem_sink::MemSink;
 pub use shelf::{Fetch, Shelf};
 pub use sink::{PutFailed, Sink};
 pub use std_sink::StdSink;
+
+#[cfg(test)]
+mod tests;
