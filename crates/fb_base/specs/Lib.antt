@@ -6,3 +6,4 @@ pub mod PieceLaws
 pub mod Pieces
 pub mod ShelfState
 pub mod SinkState
+pub mod WriterState

@@ -12,9 +12,9 @@ use std::marker::Model;
 
 /// A sink over a writer, as standard output.
 ///
-/// It tells nothing that it took: what becomes of the bytes is trusted. Each `Err` of the writer is a failure, and so is
-/// a write of nothing from a piece that is not empty. A put ends by flushing the writer. A clause sees a sink as the
-/// count of its failures.
+/// As a sink it tells nothing that it took: what becomes of the bytes is trusted. Of a writer whose contents are known,
+/// its own `put` says more. Each `Err` of the writer is a failure, and so is a write of nothing from a piece that is not
+/// empty. A put ends by flushing the writer. A clause sees a sink as its writer and the count of its failures.
 #[derive(Debug, Drop)]
 pub struct StdSink<W: Write + Drop> {
     writer: W,
@@ -22,17 +22,19 @@ pub struct StdSink<W: Write + Drop> {
 }
 
 impl<W: Write + Drop> Model for StdSink<W> {
-    ghost use Rattle.std.specs.Prelude.{ℕ};
+    ghost use Rattle.fb_base.specs.WriterState.{WriterState, state_code};
 
-    ghost Value = { ℕ };
+    ghost Value = { WriterState W };
 
-    ghost view = { λ sink. sink.failures };
+    ghost coded = { state_code W.code };
+
+    ghost view = { λ sink. record { writer = sink.writer; failures = sink.failures } };
 }
 
 impl<W: Write + Drop> StdSink<W> {
     /// A sink that has not failed.
     pub fn new(writer: W) -> StdSink<W>
-        ensures { result ≡ 0 }
+        ensures { result ≡ record { writer = writer; failures = 0 } }
     {
         StdSink {
             writer,
@@ -42,7 +44,7 @@ impl<W: Write + Drop> StdSink<W> {
 
     /// How many puts failed. The count stays at `u64::MAX`.
     pub fn failures(&self) -> u64
-        ensures { result ≡ self.now }
+        ensures { result ≡ self.now.failures }
     {
         self.failures
     }
@@ -71,17 +73,21 @@ impl<W: Write + Drop> Sink for StdSink<W> {
 
     ghost taken = { λ _. [] };
 
-    ghost faults = { λ failures. failures };
+    ghost faults = { λ sink. sink.failures };
 
     fn put(&mut self, bytes: &[u8]) -> Result<(), PutFailed>
+        // The writer has the whole piece on success, and else a prefix of it.
+        ensures whole { OnOk result (Appends (W.contents self.old.writer) (W.contents self.new.writer) bytes.now) }
+        ensures prefix { OnErr result ((count : ℕ) × Appends (W.contents self.old.writer) (W.contents self.new.writer) (take count bytes.now)) }
+
         // Each failure is counted, and nothing else is.
-        ensures one_fault { OnErr result (self.new ≡ counted self.old) }
-        ensures no_fault { OnOk result (self.new ≡ self.old) }
+        ensures one_fault { OnErr result (self.new.failures ≡ counted self.old.failures) }
+        ensures no_fault { OnOk result (self.new.failures ≡ self.old.failures) }
 
         // What it does as a sink that tells nothing.
-        ensures never_falls { self.old ≤ self.new }
-        ensures failed { OnErr result (Rose self.old self.new) }
-        ensures ok { ¬ Rose self.old self.new → IsOk result }
+        ensures never_falls { self.old.failures ≤ self.new.failures }
+        ensures failed { OnErr result (Rose self.old.failures self.new.failures) }
+        ensures ok { ¬ Rose self.old.failures self.new.failures → IsOk result }
     {
         if write_whole(&mut self.writer, bytes) {
             return Ok(());
