@@ -10,7 +10,7 @@ use Rattle.fb_types.specs.declared.rows.Mult.{Mult}
 use Rattle.rows_document.specs.Table.{fields_of}
 use Rattle.rows_document.specs.Records.{IsGood, line_of}
 use Rattle.rows_document.specs.RecordLaws.{line_same}
-use Rattle.rows_document.specs.Reading.{IsDocument, AreLinesOf, records_of}
+use Rattle.rows_document.specs.Reading.{IsDocument, AreLinesOf, IsReading, records_of}
 use Rattle.rows_document.specs.Drafts.{start, takes, after, finished, runs, records_so_far, IsDraftOf}
 use Rattle.rows_document.specs.declared.record.Record.{Record}
 use Rattle.rows_document.specs.declared.reader.RowsDocument.{RowsDocument}
@@ -75,3 +75,18 @@ pub finish_none : (texts : List (List ℕ)) (e : Draft) → IsDraftOf texts e �
 finish_none texts e is none d lines =
     let here : finished e ≡ Some d = ap finished (all_lines texts e d is lines.document lines.spelled) ∙ whole_finishes d in
     cc
+
+-- ---- the bytes spell one document at most
+whole_same : (d e : RowsDocument) → whole d ≡ whole e → d ≡ e
+whole_same d e same =
+    let here : Some d ≡ Some e = ap finished same in
+    some_same d e here
+
+pub reading_same : (bytes : List ℕ) (d e : RowsDocument) → IsReading bytes d → IsReading bytes e → d ≡ e
+reading_same bytes d e r s =
+    let records = records_same (records_of d) (records_of e) r.document.in_range s.document.in_range (sym r.spelled ∙ s.spelled) in
+    let here = runs-document d r.document in
+    let there = runs-document e s.document in
+    let runs_same = ap (runs start) records in
+    let both : Some (whole d) ≡ Some (whole e) = cc in
+    whole_same d e (some_same (whole d) (whole e) both)

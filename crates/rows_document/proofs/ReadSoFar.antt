@@ -1,15 +1,18 @@
 -- The lines that are read, one by one.
-use Rattle.std.proofs.Common.{◌≡◌, ℕ, zero, suc, ◌+◌, ◌<◌, ◌≤◌, true, false, List, [], ◌∷◌, ◌++◌, map, length, length-drop, take, drop, refl, sym, ap, ◌∙◌, subst, arith}
-use Rattle.std.specs.Prelude.{None}
+use Rattle.std.proofs.Common.{◌≡◌, ℕ, zero, suc, ◌+◌, ◌<◌, ◌≤◌, true, false, List, [], ◌∷◌, ◌++◌, map, length, length-drop, take, drop, refl, sym, ap, ◌∙◌, subst, arith, append_assoc, inl, inr}
+use Rattle.std.specs.Prelude.{None, Err}
+use Rattle.std.proofs.lemmas.Bool.{cases_order}
 use Rattle.std.proofs.lemmas.List.{take_all, take-append-drop}
 use Rattle.std.proofs.lemmas.List.Elements.{All-nil}
 use Rattle.fb_types.specs.declared.rows.Half.{Half}
 use Rattle.rows_document.specs.Table.{lines_of, fields_of}
 use Rattle.rows_document.specs.Records.{IsGood, line_of}
-use Rattle.rows_document.specs.Reading.{IsBeginning, IsFirstBadLine, AreLinesOf, records_of}
-use Rattle.rows_document.specs.Drafts.{start, takes, after, finished, IsDraftOf, IsReadSoFar}
+use Rattle.rows_document.specs.Reading.{IsBeginning, IsFirstBadLine, AreLinesOf, IsBadLineOrMemory, records_of}
+use Rattle.rows_document.specs.Drafts.{start, takes, after, finished, IsDraftOf, IsReadSoFar, IsBadLineOf}
 use Rattle.rows_document.specs.declared.record.Record.{Record}
 use Rattle.rows_document.specs.declared.reader.RowsDocument.{RowsDocument}
+use Rattle.rows_document.specs.declared.reader.RowsError.{RowsError}
+use Rattle.rows_document.specs.declared.reader.RowsError.TheVariants.{Fault, Memory}
 use Rattle.rows_document.specs.declared.draft.Draft.{Draft}
 use Rattle.rows_document.proofs.Drafted.{one_more, finish_none}
 use Rattle.rows_document.proofs.Beginnings.{begins, breaks}
@@ -123,3 +126,35 @@ at_end bytes rest n d so_far e =
       counted = omega (arith, all, so_far.within);
       small = omega (arith, so_far.room);
     }
+
+take_take : {X : Type 0} (k n : ℕ) (xs : List X) → k ≤ n → take k (take n xs) ≡ take k xs
+take_take zero n xs l = refl
+take_take (suc k) zero xs l = absurd (omega arith)
+take_take (suc k) (suc n) [] l = refl
+take_take (suc k) (suc n) (x ∷ xs) l = ap (λ ys. x ∷ ys) (take_take k n xs (omega arith))
+
+-- the lines before the last of a beginning are a beginning
+shorter : (lines : List (List ℕ)) (k n : ℕ) → k ≤ n → IsBeginning (take n lines) → IsBeginning (take k lines)
+shorter lines k n l b = record {
+  whole = b.whole;
+  document = b.document;
+  front = take k b.front;
+  rest = drop k b.front ++ b.rest;
+  parts = b.parts ∙ ap (λ rs. rs ++ b.rest) (sym (take-append-drop k b.front)) ∙ append_assoc (take k b.front) (drop k b.front) b.rest;
+  spelled = ap (map fields_of) (sym (take_take k n lines l)) ∙ map_take fields_of k (take n lines) ∙ ap (take k) b.spelled ∙ sym (map_take line_of k b.front);
+}
+
+not_before : (lines : List (List ℕ)) (m n : ℕ) → IsFirstBadLine lines m → IsFirstBadLine lines n → m < n → ⊥
+not_before lines m n a b l = a.broken (omega (arith, a.place, b.place, b.within)) (shorter lines (a.before + 1) b.before (omega (arith, a.place, b.place)) b.begun)
+
+-- there is one first bad line at most
+pub first_bad_line_same : (lines : List (List ℕ)) (m n : ℕ) → IsFirstBadLine lines m → IsFirstBadLine lines n → m ≡ n
+first_bad_line_same lines m n a b = elim (cases_order m n) [
+  | inl e ↦ e
+  | inr h ↦ elim h [ inl l ↦ absurd (not_before lines m n a b l) | inr l ↦ absurd (not_before lines n m b a l) ]
+]
+
+-- a bad line that reading the lines gave is the one first bad line
+pub err_bad : (bytes : List ℕ) (e : RowsError) → IsBadLineOf (lines_of bytes) e → (line : ℕ) → IsFirstBadLine (lines_of bytes) line → IsBadLineOrMemory (Err e) line
+err_bad bytes (Fault bad) h line b = first_bad_line_same (lines_of bytes) bad line h b
+err_bad bytes (Memory m) h line b = tt

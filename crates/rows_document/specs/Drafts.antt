@@ -8,6 +8,9 @@ use Rattle.fb_types.specs.declared.rows.Half.{Half}
 use Rattle.rows_document.specs.declared.record.Record.{Record}
 use Rattle.rows_document.specs.declared.record.Record.TheVariants.{Zone, Row, Target, Cite, Balance}
 use Rattle.rows_document.specs.declared.reader.RowsDocument.{RowsDocument}
+use Rattle.rows_document.specs.Reading.{IsFirstBadLine}
+use Rattle.rows_document.specs.declared.reader.RowsError.{RowsError}
+use Rattle.rows_document.specs.declared.reader.RowsError.TheVariants.{Fault, Memory}
 use Rattle.rows_document.specs.declared.draft.Draft.{Draft}
 
 abbrev pub start : Draft
@@ -74,3 +77,8 @@ pub record IsReadSoFar (bytes rest : List ℕ) (number : ℕ) (d : Draft) : Type
   pub drafted : IsDraftOf (take number (lines_of bytes)) d
   pub left : drop number (lines_of bytes) ≡ lines_of rest
   pub room : number + length rest ≤ length bytes
+
+-- why reading the lines stopped
+abbrev pub IsBadLineOf : List (List ℕ) → RowsError → Type 0
+IsBadLineOf lines (Fault line) = IsFirstBadLine lines line
+IsBadLineOf lines (Memory e) = Unit {0}

@@ -1,5 +1,5 @@
 -- What a rows document says, and its first bad line.
-use Rattle.std.specs.Prelude.{◌≡◌, ℕ, ◌+◌, ◌<◌, ◌≤◌, List, [], ◌∷◌, ◌++◌, length, map, take}
+use Rattle.std.specs.Prelude.{◌≡◌, ℕ, ◌+◌, ◌<◌, ◌≤◌, List, [], ◌∷◌, ◌++◌, length, map, take, Result, Ok, Err}
 use Rattle.std.specs.List.{All}
 use Rattle.rows_document.specs.Table.{lines_of, fields_of}
 use Rattle.rows_document.specs.Records.{IsGood, line_of}
@@ -50,7 +50,21 @@ pub record IsFirstBadLine (lines : List (List ℕ)) (line : ℕ) : Type 0 where
   pub broken : before < length lines → ¬ IsBeginning (take (before + 1) lines)
   pub unread : (d : RowsDocument) → ¬ AreLinesOf lines d
 
--- the fault of a document is its first bad line; want of memory may come at any document
-abbrev pub IsFaultOf : List ℕ → RowsError → Type 0
-IsFaultOf bytes (Fault line) = IsFirstBadLine (lines_of bytes) line
-IsFaultOf bytes (Memory e) = Unit {0}
+-- what an answer of the reader says: the document that the bytes spell, or their first bad line; want of memory may come
+-- at any document
+abbrev pub SaysOf : List ℕ → Result RowsDocument RowsError → Type 0
+SaysOf bytes (Ok d) = IsReading bytes d
+SaysOf bytes (Err (Fault line)) = IsFirstBadLine (lines_of bytes) line
+SaysOf bytes (Err (Memory e)) = Unit {0}
+
+-- the answer is this document, or memory ran out
+abbrev pub IsDocumentOrMemory : Result RowsDocument RowsError → RowsDocument → Type 0
+IsDocumentOrMemory (Ok e) d = e ≡ d
+IsDocumentOrMemory (Err (Fault line)) d = ⊥
+IsDocumentOrMemory (Err (Memory e)) d = Unit {0}
+
+-- the answer is that this line is the first bad one, or memory ran out
+abbrev pub IsBadLineOrMemory : Result RowsDocument RowsError → ℕ → Type 0
+IsBadLineOrMemory (Ok d) line = ⊥
+IsBadLineOrMemory (Err (Fault bad)) line = bad ≡ line
+IsBadLineOrMemory (Err (Memory e)) line = Unit {0}

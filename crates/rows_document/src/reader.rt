@@ -1,11 +1,11 @@
 //! The rows document as a whole.
 
-ghost use Rattle.std.specs.Prelude.{◌≡◌, ◌≤◌, IfOk, IfErr, length};
+ghost use Rattle.std.specs.Prelude.{◌≡◌, ◌≤◌, ℕ, IfOk, IfErr, length};
 ghost use Rattle.std.specs.List.{All};
 ghost use Rattle.fb_types.specs.Domain.{IsHalfOver, AreBounds};
 ghost use Rattle.rows_document.specs.Table.{lines_of};
-ghost use Rattle.rows_document.specs.Drafts.{IsDraftOf};
-ghost use Rattle.rows_document.specs.Reading.{IsReading, IsFaultOf};
+ghost use Rattle.rows_document.specs.Drafts.{IsDraftOf, IsBadLineOf};
+ghost use Rattle.rows_document.specs.Reading.{IsReading, IsFirstBadLine, SaysOf, IsDocumentOrMemory, IsBadLineOrMemory};
 
 use crate::draft::Draft;
 use crate::lines::first_line;
@@ -37,9 +37,10 @@ pub enum RowsError {
 ///
 /// The answer is the one document that the bytes spell, or the first bad line where they spell none.
 pub fn read_rows(alloc: Global, bytes: &[u8]) -> Result<RowsDocument, RowsError>
-    ensures found { IfOk result (λ d. IsReading bytes.now d) }
-    ensures only { (d : RowsDocument) → IsReading bytes.now d → IfOk result (λ e. e ≡ d) }
-    ensures fault { IfErr result (λ e. IsFaultOf bytes.now e) }
+    // Each answer comes only where it is true, and wherever it is true, unless memory runs out.
+    ensures says { SaysOf bytes.now result }
+    ensures reads { (d : RowsDocument) → IsReading bytes.now d → IsDocumentOrMemory result d }
+    ensures bad { (line : ℕ) → IsFirstBadLine (lines_of bytes.now) line → IsBadLineOrMemory result line }
 
     // What judging the rows needs.
     ensures target_over { IfOk result (λ d. IsHalfOver (length d.bounds) d.target) }
@@ -67,7 +68,7 @@ fn read_lines(alloc: Global, bytes: &[u8]) -> Result<Drafted, RowsError>
     ensures drafted { IfOk result (λ d. IsDraftOf (lines_of bytes.now) d.draft) }
     ensures counted { IfOk result (λ d. d.lines ≡ length (lines_of bytes.now)) }
     ensures small { IfOk result (λ d. d.lines ≤ length bytes.now) }
-    ensures fault { IfErr result (λ e. IsFaultOf bytes.now e) }
+    ensures fault { IfErr result (IsBadLineOf (lines_of bytes.now)) }
 {
     let mut draft = Draft::new(alloc);
     let mut number: u64 = 0;

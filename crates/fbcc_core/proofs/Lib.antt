@@ -1,0 +1,5 @@
+pub mod Exclusive
+pub mod Kept
+pub mod OutputPieces
+pub mod ThreeWords
+pub mod Worked

@@ -1,0 +1,13 @@
+//! The call of the program: words, documents from a shelf, the work, and what is put to the output and to the error
+//! output.
+#![tactic(auto)]
+
+mod answer;
+mod call;
+mod output;
+mod request;
+mod rows_command;
+mod telling;
+
+pub use answer::{Document, Fault, Outcome, Reason};
+pub use call::fbcc;
