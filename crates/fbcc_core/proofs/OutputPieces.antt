@@ -26,9 +26,9 @@ one_piece old mid new text at end m was is =
 
 -- a prefix of a piece more
 pub last_prefix : (old mid new text : List ℕ) (at n : ℕ) → mid ≡ old ++ take at text → AppendsPrefix mid new (take n (drop at text)) → AppendsPrefix old new text
-last_prefix old mid new text at n was (count, is) = (
-  at + min count n,
-  is ∙ ap (λ bytes. bytes ++ take count (take n (drop at text))) was
-      ∙ append_assoc old (take at text) (take count (take n (drop at text)))
-      ∙ ap (λ bytes. old ++ bytes) (ap (λ bytes. take at text ++ bytes) (take_fewer count n (drop at text)) ∙ sym (take-add at (min count n) text)),
-)
+last_prefix old mid new text at n was p = record {
+  count = at + min p.count n;
+  is = p.is ∙ ap (λ bytes. bytes ++ take p.count (take n (drop at text))) was
+      ∙ append_assoc old (take at text) (take p.count (take n (drop at text)))
+      ∙ ap (λ bytes. old ++ bytes) (ap (λ bytes. take at text ++ bytes) (take_fewer p.count n (drop at text)) ∙ sym (take-add at (min p.count n) text));
+}
