@@ -1,0 +1,7 @@
+//! Tests of the call over a shelf and sinks in memory.
+#![tactic(auto)]
+
+#[cfg(test)]
+mod calls;
+#[cfg(test)]
+mod rows;
