@@ -1,0 +1,3 @@
+pub mod Trigonometry
+pub mod Shift
+pub mod Signs
