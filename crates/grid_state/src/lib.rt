@@ -1,0 +1,6 @@
+//! The state of a grid after an outage: which nodes are of one class, which classes are live, and which branches carry.
+#![tactic(auto)]
+
+mod types;
+
+pub use types::{Edge, State};
