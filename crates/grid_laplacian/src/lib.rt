@@ -1,13 +1,5 @@
-// A library with one function.
+//! The Laplacian of a grid state, and the laws of its direct-current load flow: each right side makes angles, they are
+//! unique, and neither a flow nor an angle is larger than what is fed in allows.
 #![tactic(auto)]
 
-ghost use Rattle.std.specs.Prelude.{◌≡◌};
-ghost use Rattle.grid_laplacian.specs.Echo.{echo_of};
-
-// The `ensures` clause is the contract: what `echo` returns is `echo_of` of its argument, a definition
-// in `specs/Echo.antt`, which a caller's clause can cite too.
-pub fn echo(x: usize) -> usize
-    ensures { result ≡ echo_of x }
-{
-    x
-}
+pub mod laws;

@@ -38,7 +38,7 @@ impl Model for State {
 impl State {
     /// How many classes there are.
     pub fn classes(&self) -> u32
-        ensures count { result ≡ classes_of self.now }
+        ensures { result ≡ classes_of self.now }
     {
         self.live.as_slice().len() as u32
     }
@@ -46,14 +46,14 @@ impl State {
     /// The class of a node.
     pub fn class_of(&self, node: u32) -> u32
         requires { node < length self.now.class_of }
-        ensures class { result ≡ class_at self.now node }
+        ensures { result ≡ class_at self.now node }
     {
         self.class_of.as_slice()[node as usize]
     }
 
     /// The class of the slack node.
     pub fn slack(&self) -> u32
-        ensures class { result ≡ self.now.slack }
+        ensures { result ≡ self.now.slack }
     {
         self.slack
     }
@@ -61,7 +61,7 @@ impl State {
     /// Whether a class is live.
     pub fn live(&self, class: u32) -> bool
         requires { class < classes_of self.now }
-        ensures live { result ≡ is_live self.now class }
+        ensures { result ≡ is_live self.now class }
     {
         self.live.as_slice()[class as usize]
     }
@@ -69,7 +69,7 @@ impl State {
     /// The sum of the susceptances of the carrying branches of a class to other classes, in kW/rad.
     pub fn susceptance_at(&self, class: u32) -> i128
         requires { class < classes_of self.now }
-        ensures sum { result ≡ pos (susceptance_of self.now class) }
+        ensures { result ≡ pos (susceptance_of self.now class) }
     {
         self.sums.as_slice()[class as usize]
     }
@@ -77,7 +77,7 @@ impl State {
     /// The carrying branches of a class to other classes, in the order of the branches; parallel branches stand there each.
     pub fn row(&self, class: u32) -> &[Edge]
         requires { class < classes_of self.now }
-        ensures row { result.now ≡ row_of self.now class }
+        ensures { result.now ≡ row_of self.now class }
     {
         self.rows.as_slice()[class as usize].as_slice()
     }
@@ -85,7 +85,7 @@ impl State {
     /// How many carrying branches a class has to other classes. A class that is not live has none.
     pub fn degree(&self, class: u32) -> u32
         requires { class < classes_of self.now }
-        ensures count { result ≡ length (row_of self.now class) }
+        ensures { result ≡ length (row_of self.now class) }
     {
         self.rows.as_slice()[class as usize].as_slice().len() as u32
     }
@@ -104,14 +104,14 @@ impl State {
     /// Whether a branch carries: it is a line or a transformer in operation outside the outage, and its ends are live.
     pub fn carries(&self, branch: u32) -> bool
         requires { branch < length self.now.carries }
-        ensures carries { result ≡ carries_at self.now branch }
+        ensures { result ≡ carries_at self.now branch }
     {
         self.carries.as_slice()[branch as usize]
     }
 
     /// What holds of every state, for its callers' proofs.
     pub fn sound(&self)
-        ensures sound { IsSound self.now }
+        ensures { IsSound self.now }
     {
         let _slack = &self.slack;
     }

@@ -1,0 +1,9 @@
+pub mod Angle
+pub mod Bridge
+pub mod Cut
+pub mod Drained
+pub mod Existence
+pub mod LawProofs
+pub mod Maximum
+pub mod PartialSums
+pub mod Uniqueness
