@@ -10,7 +10,8 @@ use Rattle.grid_state.specs.declared.types.Edge.{Edge}
 use Rattle.grid_state.specs.GridState.{GridState, row_of, weight_to, weight, is_live, is_free, classes_of, live_count, IsEdge, IsSound}
 use Rattle.whole_laws.specs.Sums.{sum_below, total_below, at}
 use Rattle.grid_laplacian.specs.Tables.{laplacian, IsGrounded, SolvesTable}
-use Rattle.grid_laplacian.specs.Laws.{drop_over, laplacian_at, Solves, supply_of, IsAtMostEach, Maximum, Existence, Uniqueness, Cut, Angle}
+use Rattle.grid_laplacian.specs.Sizes.{supply_of}
+use Rattle.grid_laplacian.specs.Laws.{drop_over, laplacian_at, Solves, Maximum, Existence, Uniqueness, Cut, Angle}
 use Rattle.whole_laws.specs.SumLaws.{sum_below-same}
 use Rattle.whole_laws.specs.TotalLaws.{total_below-le}
 use Rattle.grid_laplacian.proofs.Maximum.{maximum}

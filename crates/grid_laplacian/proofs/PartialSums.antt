@@ -1,12 +1,16 @@
 -- The partial sums of a residual, and their size.
-use Rattle.std.proofs.Common.{◌≡◌, ℕ, zero, suc, ◌+◌, ◌*◌, ◌<◌, ◌≤◌, List, [], ◌∷◌, length, get_or, take, All, ℤ, pos, ◌+ℤ◌, ◌-ℤ◌, ◌*ℤ◌, nat_abs, arith, add-one, mul-le-mul_left, mul-le-mul_right, le_of_mul-le-mul_right, refl, ap, sym, subst, ◌∙◌, ◌^◌, FitsSigned}
+use Rattle.std.proofs.Common.{◌≡◌, ℕ, zero, suc, ◌+◌, ◌*◌, ◌<◌, ◌≤◌, List, [], ◌∷◌, length, get_or, take, All, ℤ, pos, ◌+ℤ◌, ◌-ℤ◌, ◌*ℤ◌, nat_abs, arith, add-one, mul-le-mul_left, mul-le-mul_right, le_of_mul-le-mul_right, refl, ap, sym, subst, ◌∙◌, ◌^◌, FitsSigned, true, inl, inr}
 use Rattle.std.proofs.lemmas.Int.{ints, unsigned_abs-mul, fits_signed_from_abs}
 use mir.Syntax.{w128}
 use Rattle.std.proofs.lemmas.List.Elements.{All-head, All-tail, All-take, All-weaker, All-get_or}
 use Rattle.grid_state.specs.declared.types.Edge.{Edge}
-use Rattle.grid_state.specs.GridState.{GridState, row_of, classes_of, susceptance_over, susceptance_of, IsEdge, IsSound}
-use Rattle.whole_laws.specs.Sums.{at}
+use Rattle.grid_state.specs.GridState.{GridState, row_of, classes_of, is_free, susceptance_over, susceptance_of, IsEdge, IsSound}
+use Rattle.whole_laws.specs.Sums.{at, IsWithin}
+use Rattle.std.proofs.lemmas.Bool.{cases_eq, cond-true}
+use Rattle.std.proofs.Math.Nat.{le-max_left, le-max_right}
 use Rattle.grid_laplacian.specs.Laws.{drop_over}
+use Rattle.grid_laplacian.specs.Sizes.{greatest_below, free_susceptance_of, greatest_susceptance_of}
+use Rattle.grid_laplacian.specs.Rooms.{HasRoom}
 
 pub drop_over-more : (es : List Edge) (f : ℕ → ℤ) (x : ℤ) (k : ℕ) (d : Edge) → k < length es
     → drop_over (take (k + 1) es) f x ≡ drop_over (take k es) f x +ℤ pos (get_or es k d).b *ℤ (x -ℤ f (get_or es k d).to)
@@ -95,47 +99,70 @@ less_times : (b s m : ℕ) (z : ℤ) → b ≤ s → s * nat_abs z ≤ m → b *
 less_times b s m z le h = let more = mul-le-mul_right (nat_abs z) le in omega arith
 
 -- what a turn of the loop over a row knows
-pub record Turn (state : GridState) (p w : List ℤ) (class : ℕ) (row : List Edge) (k : ℕ) (e : Edge) : Type 0 where
+pub record Turn (row : List Edge) (w : List ℤ) (start here : ℤ) (k : ℕ) (e : Edge) : Type 0 where
   pub some : 0 < e.b
-  pub here_small : e.b * nat_abs (at w class) ≤ 2 ^ 121
+  pub here_small : e.b * nat_abs here ≤ 2 ^ 121
   pub there_small : e.b * nat_abs (at w e.to) ≤ 2 ^ 121
-  pub here_fits : FitsSigned w128 (at w class)
+  pub here_fits : FitsSigned w128 here
   pub there_fits : FitsSigned w128 (at w e.to)
-  pub step_fits : FitsSigned w128 ((at p class -ℤ drop_over (take k row) (at w) (at w class)) -ℤ pos e.b *ℤ (at w class -ℤ at w e.to))
+  pub step_fits : FitsSigned w128 ((start -ℤ drop_over (take k row) (at w) here) -ℤ pos e.b *ℤ (here -ℤ at w e.to))
 
-all_there : (n s : ℕ) (w : List ℤ) (es : List Edge) → length w ≡ n → All (λ z. s * nat_abs z ≤ 2 ^ 121) w → All (λ e. IsEdge n e) es → All (λ e. s * nat_abs (at w e.to) ≤ 2 ^ 121) es
-all_there n s w es same small edges =
-    All-weaker (λ e. IsEdge n e) (λ e. s * nat_abs (at w e.to) ≤ 2 ^ 121) (λ e is. let below = is.leads in All-get_or (λ z. s * nat_abs z ≤ 2 ^ 121) w e.to (pos 0) (omega arith) small) es edges
+all_there : (s : ℕ) (w : List ℤ) (es : List Edge) → All (λ z. s * nat_abs z ≤ 2 ^ 121) w → All (λ e. IsEdge (length w) e) es → All (λ e. s * nat_abs (at w e.to) ≤ 2 ^ 121) es
+all_there s w es small edges =
+    All-weaker (λ e. IsEdge (length w) e) (λ e. s * nat_abs (at w e.to) ≤ 2 ^ 121) (λ e is. let below = is.leads in All-get_or (λ z. s * nat_abs z ≤ 2 ^ 121) w e.to (pos 0) (omega arith) small) es edges
 
-turn_row : (state : GridState) (p w : List ℤ) (class : ℕ) → IsSound state → class < classes_of state → length p ≡ classes_of state → length w ≡ classes_of state
-    → All (λ z. nat_abs z ≤ 2 ^ 121) p → All (λ z. susceptance_of state class * nat_abs z ≤ 2 ^ 121) w
-    → (k : ℕ) (d : Edge) → k < length (row_of state class) → Turn state p w class (row_of state class) k (get_or (row_of state class) k d)
-turn_row state p w class sound h p_len w_len p_small w_small k d lt =
-    let row = row_of state class in
+pub turn : (row : List Edge) (w : List ℤ) (start here : ℤ) → HasRoom row w start here → (k : ℕ) (d : Edge) → k < length row → Turn row w start here k (get_or row k d)
+turn row w start here room k d lt =
     let e = get_or row k d in
-    let s = susceptance_of state class in
-    let edges : All (λ x. IsEdge (classes_of state) x) row = All-get_or (λ r. All (λ x. IsEdge (classes_of state) x) r) state.rows class [] (omega (arith, sound.same_length)) sound.edges in
-    let is = edges k d lt in
-    let ends = is.leads in
+    let s = susceptance_over row in
+    let is = room.edges k d lt in
+    let leads = is.leads in
     let part = part_of_total row k d lt in
-    let at_here : s * nat_abs (at w class) ≤ 2 ^ 121 = All-get_or (λ z. s * nat_abs z ≤ 2 ^ 121) w class (pos 0) (omega arith) w_small in
-    let at_there : s * nat_abs (at w e.to) ≤ 2 ^ 121 = All-get_or (λ z. s * nat_abs z ≤ 2 ^ 121) w e.to (pos 0) (omega arith) w_small in
-    let here = less_times e.b s (2 ^ 121) (at w class) part at_here in
-    let there = less_times e.b s (2 ^ 121) (at w e.to) part at_there in
+    let at_there : s * nat_abs (at w e.to) ≤ 2 ^ 121 = All-get_or (λ z. s * nat_abs z ≤ 2 ^ 121) w e.to (pos 0) (omega arith) room.there_small in
+    let here_small = less_times e.b s (2 ^ 121) here part room.here_small in
+    let there_small = less_times e.b s (2 ^ 121) (at w e.to) part at_there in
     let some = is.some in
-    let at_p : nat_abs (at p class) ≤ 2 ^ 121 = All-get_or (λ z. nat_abs z ≤ 2 ^ 121) p class (pos 0) (omega arith) p_small in
-    let partial = part_small (2 ^ 121) row (at w) (at w class) k (omega arith) at_here (all_there (classes_of state) s w row w_len w_small edges) in
+    let partial = part_small (2 ^ 121) row (at w) here k (omega arith) room.here_small (all_there s w row room.there_small room.edges) in
     record {
       some = some;
-      here_small = here;
-      there_small = there;
-      here_fits = item_fits e.b (at w class) some here;
-      there_fits = item_fits e.b (at w e.to) some there;
-      step_fits = left_fits (at p class) (drop_over (take k row) (at w) (at w class)) (pos e.b *ℤ (at w class -ℤ at w e.to)) at_p (omega arith) (drop_size e.b (at w class) (at w e.to) here there);
+      here_small = here_small;
+      there_small = there_small;
+      here_fits = item_fits e.b here some here_small;
+      there_fits = item_fits e.b (at w e.to) some there_small;
+      step_fits = left_fits start (drop_over (take k row) (at w) here) (pos e.b *ℤ (here -ℤ at w e.to)) room.start_small (omega arith) (drop_size e.b here (at w e.to) here_small there_small);
     }
 
-pub turn : (state : GridState) (p w : List ℤ) (class : ℕ) → IsSound state → class < classes_of state → length p ≡ classes_of state → length w ≡ classes_of state
-    → All (λ z. nat_abs z ≤ 2 ^ 121) p → All (λ z. susceptance_of state class * nat_abs z ≤ 2 ^ 121) w
-    → (row : List Edge) → row ≡ row_of state class → (k : ℕ) (d : Edge) → k < length row → Turn state p w class row k (get_or row k d)
-turn state p w class sound h p_len w_len p_small w_small row same k d =
-    subst (λ (r : List Edge). k < length r → Turn state p w class r k (get_or r k d)) (sym same) (turn_row state p w class sound h p_len w_len p_small w_small k d)
+-- ---- a row of a state has room
+size_within : (m : ℕ) (z : ℤ) → IsWithin m z → nat_abs z ≤ m
+size_within m z h = let low = h.low in let high = h.high in omega (arith, ints)
+
+size_scaled : (s g m : ℕ) (z : ℤ) → s ≤ g → IsWithin m (pos g *ℤ z) → s * nat_abs z ≤ m
+size_scaled s g m z le h =
+    let size = size_within m (pos g *ℤ z) h in
+    let e = abs-mul g z in
+    less_times s g m z le (omega arith)
+
+le_greatest : (n : ℕ) (f : ℕ → ℕ) (k : ℕ) → k < n → f k ≤ greatest_below n f
+le_greatest zero f k h = absurd (omega arith)
+le_greatest (suc n) f k h =
+    let one = le-max_left (greatest_below n f) (f n) in
+    let other = le-max_right (greatest_below n f) (f n) in
+    elim (cases_eq k n) [
+      | inl e ↦ let same = ap f e in omega arith
+      | inr ne ↦ let rest = le_greatest n f k (omega arith) in omega arith
+    ]
+
+pub row_room : (s : GridState) (p w : List ℤ) (class : ℕ) → IsSound s → class < classes_of s → is_free s class ≡ true → length p ≡ classes_of s → length w ≡ classes_of s
+    → All (λ z. IsWithin (2 ^ 121) z) p → All (λ z. IsWithin (2 ^ 121) (pos (greatest_susceptance_of s) *ℤ z)) w → HasRoom (row_of s class) w (at p class) (at w class)
+row_room s p w class sound h free p_len w_len p_small w_small =
+    let here = susceptance_of s class in
+    let most : here ≤ greatest_susceptance_of s =
+    let whole = le_greatest (classes_of s) (free_susceptance_of s) class h in let e = cond-true {A = ℕ} (is_free s class) here 0 free in omega arith in
+    let edges : All (λ x. IsEdge (classes_of s) x) (row_of s class) = All-get_or (λ r. All (λ x. IsEdge (classes_of s) x) r) s.rows class [] (omega (arith, sound.same_length)) sound.edges in
+    let each : All (λ z. here * nat_abs z ≤ 2 ^ 121) w = All-weaker (λ z. IsWithin (2 ^ 121) (pos (greatest_susceptance_of s) *ℤ z)) (λ z. here * nat_abs z ≤ 2 ^ 121) (λ z is. size_scaled here (greatest_susceptance_of s) (2 ^ 121) z most is) w w_small in
+    record {
+      edges = subst (λ (n : ℕ). All (λ x. IsEdge n x) (row_of s class)) (sym w_len) edges;
+      start_small = size_within (2 ^ 121) (at p class) (All-get_or (λ z. IsWithin (2 ^ 121) z) p class (pos 0) (omega arith) p_small);
+      here_small = All-get_or (λ z. here * nat_abs z ≤ 2 ^ 121) w class (pos 0) (omega arith) each;
+      there_small = each;
+    }

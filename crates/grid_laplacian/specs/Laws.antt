@@ -1,9 +1,10 @@
 -- The direct-current load flow of a state, and its laws, for all lists of whole numbers. A list has one number for each class.
 -- An angle is a whole number t over a denominator d that all classes share.
-use Rattle.std.specs.Prelude.{◌≡◌, ℕ, ◌*◌, ◌<◌, ◌≤◌, true, false, if◌then◌else◌, List, [], ◌∷◌, length, All, Any, ℤ, pos, ◌+ℤ◌, ◌-ℤ◌, ◌*ℤ◌, ◌≤ℤ◌, unsigned_abs}
-use Rattle.whole_laws.specs.Sums.{total_below, at}
+use Rattle.std.specs.Prelude.{◌≡◌, ℕ, ◌*◌, ◌<◌, ◌≤◌, true, false, List, [], ◌∷◌, length, All, ℤ, pos, ◌+ℤ◌, ◌-ℤ◌, ◌*ℤ◌, ◌≤ℤ◌, unsigned_abs}
+use Rattle.whole_laws.specs.Sums.{at}
 use Rattle.grid_state.specs.declared.types.Edge.{Edge}
 use Rattle.grid_state.specs.GridState.{GridState, classes_of, is_live, is_free, row_of, live_count}
+use Rattle.grid_laplacian.specs.Sizes.{IsAtMostEach, supply_of}
 
 -- the sum of b·(x - f_j) over the branches of a row, j being the class that a branch leads to
 abbrev pub drop_over : List Edge → (ℕ → ℤ) → ℤ → ℤ
@@ -21,21 +22,6 @@ pub record Solves (s : GridState) (p t : List ℤ) (d : ℕ) : Type 0 where
   pub positive : 1 ≤ d
   pub fixed : (i : ℕ) → i < classes_of s → is_free s i ≡ false → at t i ≡ pos 0
   pub balanced : (i : ℕ) → i < classes_of s → is_free s i ≡ true → laplacian_at s t i ≡ pos d *ℤ at p i
-
--- the sum of |p| over the live classes but the slack's
-abbrev pub supply_of : GridState → List ℤ → ℕ
-supply_of s p = total_below (classes_of s) (λ i. if is_free s i then unsigned_abs (at p i) else 0)
-
--- no carrying branch between two classes has a susceptance below b
-pub record IsAtMostEach (s : GridState) (b : ℕ) : Type 0 where
-  pub each : (i : ℕ) → i < classes_of s → All (λ e. b ≤ e.b) (row_of s i)
-
--- b is the least susceptance of the carrying branches between two classes
-pub record IsLeastSusceptance (s : GridState) (b : ℕ) : Type 0 where
-  pub least : IsAtMostEach s b
-  pub class : ℕ
-  pub class_below : class < classes_of s
-  pub taken : Any (λ e. e.b ≡ b) (row_of s class)
 
 -- ---- The laws
 

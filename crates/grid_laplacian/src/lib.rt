@@ -3,3 +3,6 @@
 #![tactic(auto)]
 
 pub mod laws;
+mod residual;
+
+pub use residual::residual_at;
