@@ -1,1 +1,3 @@
 pub mod GridState
+pub mod Links
+pub mod Unions

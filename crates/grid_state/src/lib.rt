@@ -1,6 +1,8 @@
 //! The state of a grid after an outage: which nodes are of one class, which classes are live, and which branches carry.
 #![tactic(auto)]
 
+mod components;
+mod links;
 mod types;
 
 pub use types::{Edge, State};

@@ -1,0 +1,63 @@
+-- Words of private contracts: trees of places, in which each place points up to an earlier one of its class, or to itself.
+-- Nobody need believe them: `AreClasses` says what comes of them.
+use Rattle.std.specs.Prelude.{◌≡◌, ℕ, ◌<◌, ◌≤◌, Bool, List, length, slice_index, All}
+use Rattle.grid_state.specs.declared.links.Link.{Link}
+
+-- a set has both ends of each link, or neither
+pub record Respects (links : List Link) (set : ℕ → Bool) : Type 0 where
+  pub both : All (λ link. set link.one ≡ set link.other) links
+
+-- a set has each place and the one that it points up to, or neither
+pub record Follows (up : List ℕ) (set : ℕ → Bool) : Type 0 where
+  pub both : (i : ℕ) → i < length up → set (slice_index up i) ≡ set i
+
+pub record PointsUp (up : List ℕ) : Type 0 where
+  pub before : (i : ℕ) → i < length up → slice_index up i ≤ i
+
+-- from a place up to another, while the trees are made lower
+pub record Climbs (old new : List ℕ) (from to : ℕ) : Type 0 where
+  pub points : PointsUp new
+  pub size : length new ≡ length old
+  pub above : to ≤ from
+  pub lower : (set : ℕ → Bool) → Follows old set → Follows new set
+  pub higher : (set : ℕ → Bool) → Follows new set → Follows old set
+  pub one_tree : (set : ℕ → Bool) → Follows new set → set to ≡ set from
+  pub roots : (i : ℕ) → slice_index old i ≡ i → slice_index new i ≡ i
+
+-- the trees of two places are made one
+pub record Unites (old new : List ℕ) (link : Link) : Type 0 where
+  pub points : PointsUp new
+  pub size : length new ≡ length old
+  pub united : (set : ℕ → Bool) → Follows old set → set link.one ≡ set link.other → Follows new set
+  pub before : (set : ℕ → Bool) → Follows new set → Follows old set
+  pub ends : (set : ℕ → Bool) → Follows new set → set link.one ≡ set link.other
+
+-- n places, each of which points up to itself
+pub record ArePlacesApart (up : List ℕ) (n : ℕ) : Type 0 where
+  pub size : length up ≡ n
+  pub itself : (i : ℕ) → i < n → slice_index up i ≡ i
+
+-- trees of the classes that links make
+pub record AreTrees (links : List Link) (up : List ℕ) : Type 0 where
+  pub points : PointsUp up
+  pub followed : (set : ℕ → Bool) → Respects links set → Follows up set
+  pub respected : (set : ℕ → Bool) → Follows up set → Respects links set
+
+-- the first places are labelled, each as the one that it points up to
+pub record AreLabels (up labels : List ℕ) (count : ℕ) : Type 0 where
+  pub few : count ≤ length labels
+  pub below : All (λ c. c < count) labels
+  pub follow : (i : ℕ) → i < length labels → slice_index labels (slice_index up i) ≡ slice_index labels i
+  pub one_tree : (i j : ℕ) → i < length labels → j < length labels → slice_index labels i ≡ slice_index labels j → (set : ℕ → Bool) → Follows up set → set i ≡ set j
+  pub used : (c : ℕ) → c < count → (i : ℕ) × (i < length labels) × (slice_index labels i ≡ c)
+  pub in_order : (i c : ℕ) → i < length labels → c < slice_index labels i → (j : ℕ) × (j < i) × (slice_index labels j ≡ c)
+
+-- the first k places are labelled
+pub record LabelsFirst (up labels : List ℕ) (count k : ℕ) : Type 0 where
+  pub good : AreLabels up labels count
+  pub so_far : length labels ≡ k
+
+-- links of places below n
+pub record AreLinksBelow (n : ℕ) (links : List Link) : Type 0 where
+  pub ones : All (λ link. link.one < n) links
+  pub others : All (λ link. link.other < n) links
