@@ -1,3 +1,5 @@
 pub mod Chains
 pub mod Classes
+pub mod LinkLists
+pub mod RowLists
 pub mod Trees

@@ -1,3 +1,4 @@
 pub mod GridState
 pub mod Links
+pub mod Rows
 pub mod Unions

@@ -24,6 +24,11 @@ is_coupler branch = is_coupler_kind branch.kind
 abbrev pub is_line : Branch → Bool
 is_line branch = not (is_coupler branch)
 
+-- couplers, or else lines and transformers
+abbrev pub is_wanted : Bool → Branch → Bool
+is_wanted true branch = is_coupler branch
+is_wanted false branch = is_line branch
+
 -- whether a branch, given with its number, is of the kind, in operation and outside the outage
 abbrev pub is_chosen : (Branch → Bool) → (ℕ → Bool) → ℕ × Branch → Bool
 is_chosen kind out p = kind p.1 && (p.1.in_operation && not (out p.0))
@@ -38,11 +43,15 @@ links_of kind out branches = map (λ p. link_of p.1) (filter (is_chosen kind out
 
 -- the closed couplers outside the outage
 abbrev pub couplers_of : List ℕ → List Branch → List Link
-couplers_of outage branches = links_of is_coupler (is_out outage) branches
+couplers_of outage branches = links_of (is_wanted true) (is_out outage) branches
 
 -- the lines and transformers in operation outside the outage
 abbrev pub lines_of : List ℕ → List Branch → List Link
-lines_of outage branches = links_of is_line (is_out outage) branches
+lines_of outage branches = links_of (is_wanted false) (is_out outage) branches
+
+-- a link of nodes as a link of their classes
+abbrev pub between : List ℕ → Link → Link
+between class_of link = record { one = slice_index class_of link.one; other = slice_index class_of link.other; b = link.b }
 
 -- ---- Chains
 

@@ -1,7 +1,11 @@
 -- Words of private contracts: trees of places, in which each place points up to an earlier one of its class, or to itself.
 -- Nobody need believe them: `AreClasses` says what comes of them.
-use Rattle.std.specs.Prelude.{◌≡◌, ℕ, ◌<◌, ◌≤◌, Bool, List, length, slice_index, All}
+use Rattle.std.specs.Prelude.{◌≡◌, ℕ, ◌<◌, ◌≤◌, Bool, false, List, length, map, filter, take, slice_index, slice_index_or, All}
+use Rattle.std.specs.List.{enumerate_from}
+use Rattle.fb_types.specs.declared.grid.Branch.{Branch}
 use Rattle.grid_state.specs.declared.links.Link.{Link}
+use Rattle.grid_state.specs.Links.{is_wanted, is_chosen, link_of}
+use Rattle.grid_state.specs.Rows.{carries_in}
 
 -- a set has both ends of each link, or neither
 pub record Respects (links : List Link) (set : ℕ → Bool) : Type 0 where
@@ -57,7 +61,21 @@ pub record LabelsFirst (up labels : List ℕ) (count k : ℕ) : Type 0 where
   pub good : AreLabels up labels count
   pub so_far : length labels ≡ k
 
+-- marks of the places that pass a test
+pub record AreMarks (n : ℕ) (marks : List Bool) (test : ℕ → Bool) : Type 0 where
+  pub size : length marks ≡ n
+  pub each : (i : ℕ) → slice_index_or marks i false ≡ test i
+
 -- links of places below n
 pub record AreLinksBelow (n : ℕ) (links : List Link) : Type 0 where
   pub ones : All (λ link. link.one < n) links
   pub others : All (λ link. link.other < n) links
+
+-- the links of the first k branches
+abbrev pub links_before : Bool → List Bool → List Branch → ℕ → List Link
+links_before couplers out branches k =
+    map (λ p. link_of p.1) (filter (is_chosen (is_wanted couplers) (λ n. slice_index_or out n false)) (take k (enumerate_from 0 branches)))
+
+-- whether each of the first k branches carries
+abbrev pub carries_before : List Bool → List ℕ → List Bool → List Branch → ℕ → List Bool
+carries_before out class_of live branches k = map (carries_in (λ n. slice_index_or out n false) class_of live) (take k (enumerate_from 0 branches))

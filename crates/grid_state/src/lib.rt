@@ -3,6 +3,7 @@
 
 mod components;
 mod links;
+mod rows;
 mod types;
 
 pub use types::{Edge, State};
