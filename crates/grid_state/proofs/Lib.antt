@@ -1,5 +1,9 @@
+pub mod Building
 pub mod Chains
 pub mod Classes
 pub mod LinkLists
+pub mod Ranges
 pub mod RowLists
+pub mod Soundness
 pub mod Trees
+pub mod Weights

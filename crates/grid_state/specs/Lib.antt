@@ -1,4 +1,6 @@
 pub mod GridState
 pub mod Links
+pub mod Parts
 pub mod Rows
+pub mod States
 pub mod Unions

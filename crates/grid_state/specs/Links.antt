@@ -1,5 +1,5 @@
 -- Branches as links between nodes, chains of links, and the classes that they make.
-use Rattle.std.specs.Prelude.{◌≡◌, ℕ, ◌<◌, ◌≤◌, Bool, true, false, not, ◌&&◌, ◌==◌, ◌⊎◌, ◌↔◌, List, length, map, filter, slice_index, All, Any, unsigned_abs}
+use Rattle.std.specs.Prelude.{◌≡◌, ℕ, ◌<◌, ◌≤◌, Bool, true, false, not, ◌&&◌, ◌==◌, ◌⊎◌, ◌↔◌, IsTrue, List, length, map, filter, slice_index, slice_index_or, All, Any, unsigned_abs}
 use Rattle.std.specs.List.{list_any, enumerate_from}
 use Rattle.fb_types.specs.declared.grid.Branch.{Branch}
 use Rattle.fb_types.specs.declared.grid.BranchKind.{BranchKind}
@@ -76,3 +76,8 @@ pub record AreClasses (n : ℕ) (links : List Link) (classes : ℕ) (class_of : 
   pub used : (c : ℕ) → c < classes → (i : ℕ) × (i < n) × (slice_index class_of i ≡ c)
   pub one_class : (i j : ℕ) → i < n → j < n → (slice_index class_of i ≡ slice_index class_of j) ↔ IsJoined links i j
   pub in_order : (i c : ℕ) → i < n → c < slice_index class_of i → (j : ℕ) × (j < i) × (slice_index class_of j ≡ c)
+
+-- a test of each place, which those pass that a chain of links joins to one place
+pub record AreReached (n : ℕ) (links : List Link) (from : ℕ) (marks : List Bool) : Type 0 where
+  pub size : length marks ≡ n
+  pub each : (i : ℕ) → i < n → IsTrue (slice_index_or marks i false) ↔ IsJoined links from i

@@ -4,7 +4,7 @@ use Rattle.std.specs.Prelude.{◌≡◌, ℕ, ◌<◌, ◌≤◌, Bool, false, L
 use Rattle.std.specs.List.{enumerate_from}
 use Rattle.fb_types.specs.declared.grid.Branch.{Branch}
 use Rattle.grid_state.specs.declared.links.Link.{Link}
-use Rattle.grid_state.specs.Links.{is_wanted, is_chosen, link_of}
+use Rattle.grid_state.specs.Links.{is_wanted, is_chosen, link_of, links_of}
 use Rattle.grid_state.specs.Rows.{carries_in}
 
 -- a set has both ends of each link, or neither
@@ -71,10 +71,24 @@ pub record AreLinksBelow (n : ℕ) (links : List Link) : Type 0 where
   pub ones : All (λ link. link.one < n) links
   pub others : All (λ link. link.other < n) links
 
+-- a link of two places below n, with a susceptance in range
+pub record IsLineBelow (n : ℕ) (link : Link) : Type 0 where
+  pub one : link.one < n
+  pub other : link.other < n
+  pub some : 0 < link.b
+  pub small : link.b ≤ 100000000000
+
 -- the links of the first k branches
 abbrev pub links_before : Bool → List Bool → List Branch → ℕ → List Link
 links_before couplers out branches k =
     map (λ p. link_of p.1) (filter (is_chosen (is_wanted couplers) (λ n. slice_index_or out n false)) (take k (enumerate_from 0 branches)))
+
+-- the links of all branches, and whether each branch carries, where the branches of the outage are marked
+abbrev pub links_marked : Bool → List Bool → List Branch → List Link
+links_marked couplers out branches = links_of (is_wanted couplers) (λ n. slice_index_or out n false) branches
+
+abbrev pub carries_marked : List Bool → List ℕ → List Bool → List Branch → List Bool
+carries_marked out class_of live branches = map (carries_in (λ n. slice_index_or out n false) class_of live) (enumerate_from 0 branches)
 
 -- whether each of the first k branches carries
 abbrev pub carries_before : List Bool → List ℕ → List Bool → List Branch → ℕ → List Bool

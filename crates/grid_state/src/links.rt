@@ -1,8 +1,8 @@
 //! Branches as links between nodes, and between classes.
 
-ghost use Rattle.std.specs.Prelude.{◌≡◌, ◌<◌, ◌&&◌, not, false, length, map, slice_index_or, All, IfOk};
-ghost use Rattle.grid_state.specs.Links.{is_out, is_wanted, is_chosen, link_of, links_of, between};
-ghost use Rattle.grid_state.specs.Unions.{AreMarks, AreLinksBelow};
+ghost use Rattle.std.specs.Prelude.{◌≡◌, ◌<◌, ◌&&◌, not, length, map, All, IfOk};
+ghost use Rattle.grid_state.specs.Links.{is_out, is_wanted, link_of, between};
+ghost use Rattle.grid_state.specs.Unions.{AreMarks, AreLinksBelow, links_marked};
 
 use fb_types::{Branch, BranchKind};
 use std::alloc::{AllocError, Global};
@@ -58,7 +58,7 @@ fn link_of(branch: &Branch) -> Link
 /// The couplers, or the lines and transformers, in operation outside the outage, in the order of the branches.
 pub fn links(alloc: Global, branches: &[Branch], out: &[bool], couplers: bool) -> Result<Vec<Link>, AllocError>
     requires { length out.now ≡ length branches.now }
-    ensures { IfOk result (λ links. links.items ≡ links_of (is_wanted couplers) (λ k. slice_index_or out.now k false) branches.now) }
+    ensures { IfOk result (λ links. links.items ≡ links_marked couplers out.now branches.now) }
 {
     let mut chosen = Vec::new(alloc);
     for (number, branch) in branches.iter().enumerate() {

@@ -1,11 +1,10 @@
 //! The live classes, and the carrying branches of each.
 
-ghost use Rattle.std.specs.Prelude.{◌≡◌, ◌≢◌, ◌<◌, ◌≤◌, ◌==◌, ◌++◌, ◌∷◌, [], false, pos, length, map, slice_index_or, slice_set, All, IfOk, OnOk};
-ghost use Rattle.std.specs.List.{enumerate_from};
+ghost use Rattle.std.specs.Prelude.{◌≡◌, ◌<◌, ◌≤◌, ◌==◌, ◌++◌, ◌∷◌, [], pos, length, map, slice_index_or, slice_set, All, IfOk, OnOk};
 ghost use Rattle.fb_types.specs.GridRanges.{IsBranch};
 ghost use Rattle.grid_state.specs.GridState.{AreSums, susceptance_over};
 ghost use Rattle.grid_state.specs.Rows.{is_crossing, AreRows, carries_in};
-ghost use Rattle.grid_state.specs.Unions.{AreLinksBelow};
+ghost use Rattle.grid_state.specs.Unions.{AreLinksBelow, carries_marked};
 
 use crate::links::{self, Link};
 use crate::types::Edge;
@@ -118,7 +117,7 @@ pub fn carrying(alloc: Global, branches: &[Branch], out: &[bool], class_of: &[u3
     requires out { length out.now ≡ length branches.now }
     requires ends { All (IsBranch (length class_of.now)) branches.now }
     requires classes { All (λ c. c < length live.now) class_of.now }
-    ensures { IfOk result (λ carries. carries.items ≡ map (carries_in (λ k. slice_index_or out.now k false) class_of.now live.now) (enumerate_from 0 branches.now)) }
+    ensures { IfOk result (λ carries. carries.items ≡ carries_marked out.now class_of.now live.now branches.now) }
 {
     let mut made = Vec::new(alloc);
     for (number, branch) in branches.iter().enumerate() {

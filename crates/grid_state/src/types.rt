@@ -36,6 +36,23 @@ impl Model for State {
 }
 
 impl State {
+    ghost use Rattle.grid_state.specs.GridState.{IsKept};
+
+    /// A state of these parts.
+    pub(crate) fn new(class_of: Vec<u32>, slack: u32, live: Vec<bool>, rows: Vec<Items<Edge>>, carries: Vec<bool>, sums: Vec<i128>) -> State
+        requires { IsKept (record { class_of = class_of.items; slack = slack; live = live.items; rows = rows.items; carries = carries.items }) sums.items }
+        ensures { result ≡ record { class_of = class_of.items; slack = slack; live = live.items; rows = rows.items; carries = carries.items } }
+    {
+        State {
+            class_of: Items::from_vec(class_of),
+            slack,
+            live: Items::from_vec(live),
+            rows: Items::from_vec(rows),
+            sums: Items::from_vec(sums),
+            carries: Items::from_vec(carries),
+        }
+    }
+
     /// How many classes there are.
     pub fn classes(&self) -> u32
         ensures { result ≡ classes_of self.now }

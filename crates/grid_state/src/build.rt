@@ -1,0 +1,70 @@
+//! Makes the state of a grid.
+
+ghost use Rattle.std.specs.Prelude.{◌≡◌, ◌<◌, true, false, length, map, All, IfOk};
+ghost use Rattle.grid_state.specs.Links.{AreClasses, AreReached, between};
+ghost use Rattle.grid_state.specs.States.{IsStateOf};
+ghost use Rattle.grid_state.specs.Parts.{AreParts};
+ghost use Rattle.grid_state.specs.Unions.{AreLinksBelow, links_marked};
+
+use crate::components::{Numbering, number_classes};
+use crate::links::{self, Link};
+use crate::rows;
+use crate::types::State;
+use fb_types::Grid;
+use std::alloc::{AllocError, Global};
+
+/// The classes of nodes that the closed couplers make, where the branches of the outage are marked.
+fn node_classes(alloc: Global, grid: &Grid, out: &[bool]) -> Result<Numbering, AllocError>
+    requires { length out.now ≡ length grid.now.branches }
+    ensures { IfOk result (λ c. AreClasses (length grid.now.nodes) (links_marked true out.now grid.now.branches) c.count c.class_of.items) }
+{
+    let couplers = links::links(alloc, grid.branches.as_slice(), out, true)?;
+    number_classes(alloc, grid.nodes.len() as u32, &couplers)
+}
+
+/// The lines and transformers in operation as links of classes, where the branches of the outage are marked.
+fn class_lines(alloc: Global, grid: &Grid, out: &[bool], class_of: &[u32]) -> Result<Vec<Link>, AllocError>
+    requires out { length out.now ≡ length grid.now.branches }
+    requires each_node { length class_of.now ≡ length grid.now.nodes }
+    ensures { IfOk result (λ lines. lines.items ≡ map (between class_of.now) (links_marked false out.now grid.now.branches)) }
+{
+    let lines = links::links(alloc, grid.branches.as_slice(), out, false)?;
+    links::class_links(alloc, &lines, class_of)
+}
+
+/// The classes that a chain of lines joins to the slack's.
+fn live_classes(alloc: Global, classes: u32, slack: u32, lines: &[Link]) -> Result<Vec<bool>, AllocError>
+    requires slack { slack < classes }
+    requires lines { AreLinksBelow classes lines.now }
+    ensures { IfOk result (λ live. AreReached classes lines.now slack live.items) }
+{
+    let joined = number_classes(alloc, classes, lines)?;
+    let label = joined.class_of[slack as usize];
+    rows::same_label(alloc, &joined.class_of, label)
+}
+
+/// The state of a grid, once its classes of nodes are numbered and its lines joined to them.
+fn with_classes(alloc: Global, grid: &Grid, slack: u32, outage: &[u32], out: &[bool], nodes: Numbering, lines: &[Link]) -> Result<State, AllocError>
+    requires { AreParts grid.now slack outage.now out.now nodes.count nodes.class_of.items lines.now }
+    ensures { IfOk result (λ s. IsStateOf grid.now slack outage.now s) }
+{
+    let Numbering { count, class_of } = nodes;
+    let slack = class_of[slack as usize];
+    let live = live_classes(alloc, count, slack, lines)?;
+    let rows = rows::rows(alloc, &live, lines)?;
+    let sums = rows::row_sums(alloc, &rows)?;
+    let carries = rows::carrying(alloc, grid.branches.as_slice(), out, &class_of, &live)?;
+    Ok(State::new(class_of, slack, live, rows, carries, sums))
+}
+
+/// The state of a grid, whether it is split or not.
+pub fn whole_state(alloc: Global, grid: &Grid, slack: u32, outage: &[u32]) -> Result<State, AllocError>
+    requires slack { slack < length grid.now.nodes }
+    requires outage { All (λ k. k < length grid.now.branches) outage.now }
+    ensures { IfOk result (λ s. IsStateOf grid.now slack outage.now s) }
+{
+    let out = links::outage_marks(alloc, grid.branches.as_slice().len(), outage)?;
+    let nodes = node_classes(alloc, grid, &out)?;
+    let lines = class_lines(alloc, grid, &out, &nodes.class_of)?;
+    with_classes(alloc, grid, slack, outage, &out, nodes, &lines)
+}
