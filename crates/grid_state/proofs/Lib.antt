@@ -5,5 +5,6 @@ pub mod LinkLists
 pub mod Ranges
 pub mod RowLists
 pub mod Soundness
+pub mod Stranded
 pub mod Trees
 pub mod Weights

@@ -1,6 +1,9 @@
 pub mod GridState
 pub mod Links
+pub mod Marks
 pub mod Parts
 pub mod Rows
+pub mod Split
+pub mod StateLaws
 pub mod States
 pub mod Unions

@@ -1,7 +1,8 @@
 //! Makes the state of a grid.
 
-ghost use Rattle.std.specs.Prelude.{◌≡◌, ◌<◌, true, false, length, map, All, IfOk};
+ghost use Rattle.std.specs.Prelude.{◌≡◌, ℕ, ◌<◌, true, false, length, map, None, All, IfOk, IfErr};
 ghost use Rattle.grid_state.specs.Links.{AreClasses, AreReached, between};
+ghost use Rattle.grid_state.specs.Split.{AreKeysOf, first_stranded_node, IsSplit, IsCaused};
 ghost use Rattle.grid_state.specs.States.{IsStateOf};
 ghost use Rattle.grid_state.specs.Parts.{AreParts};
 ghost use Rattle.grid_state.specs.Unions.{AreLinksBelow, links_marked};
@@ -9,8 +10,10 @@ ghost use Rattle.grid_state.specs.Unions.{AreLinksBelow, links_marked};
 use crate::components::{Numbering, number_classes};
 use crate::links::{self, Link};
 use crate::rows;
+use crate::split::{first_stranded, keyed_nodes};
+use crate::state_fault::StateFault;
 use crate::types::State;
-use fb_types::Grid;
+use fb_types::{Column, Grid, Items};
 use std::alloc::{AllocError, Global};
 
 /// The classes of nodes that the closed couplers make, where the branches of the outage are marked.
@@ -67,4 +70,30 @@ pub fn whole_state(alloc: Global, grid: &Grid, slack: u32, outage: &[u32]) -> Re
     let nodes = node_classes(alloc, grid, &out)?;
     let lines = class_lines(alloc, grid, &out, &nodes.class_of)?;
     with_classes(alloc, grid, slack, outage, &out, nodes, &lines)
+}
+
+/// The state of a grid with an outage, seen from the slack node. It is refused as split exactly where a node of a class that
+/// is not live feeds something in or has a key weight in some block of some column.
+///
+/// The slack node, the branches of the outage and the nodes of the weights go by their places in the grid.
+pub fn state(alloc: Global, grid: &Grid, slack: u32, outage: &Items<u32>, columns: &Items<Column>) -> Result<State, StateFault>
+    requires slack { slack < length grid.now.nodes }
+    requires outage { All (λ k. k < length grid.now.branches) outage.now }
+    requires keys { AreKeysOf (length grid.now.nodes) columns.now }
+    ensures state { IfOk result (λ s. IsStateOf grid.now slack outage.now s) }
+    ensures none_stranded { IfOk result (λ s. first_stranded_node s columns.now grid.now.nodes ≡ None) }
+    ensures not_split { IfOk result (λ _. (node : ℕ) → ¬ IsSplit grid.now slack outage.now columns.now node) }
+    ensures cause { IfErr result (IsCaused grid.now slack outage.now columns.now) }
+{
+    let nodes = grid.nodes.as_slice();
+    let Ok(state) = whole_state(alloc, grid, slack, outage.as_slice()) else {
+        return Err(StateFault::Memory(AllocError));
+    };
+    let Ok(keyed) = keyed_nodes(alloc, nodes.len(), columns.as_slice()) else {
+        return Err(StateFault::Memory(AllocError));
+    };
+    match first_stranded(&state, nodes, &keyed) {
+        Some(node) => Err(StateFault::SplitGrid { node }),
+        None => Ok(state),
+    }
 }

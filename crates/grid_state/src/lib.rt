@@ -5,6 +5,11 @@ mod build;
 mod components;
 mod links;
 mod rows;
+mod split;
+mod state_fault;
 mod types;
 
+pub use build::state;
+pub use split::slack_of;
+pub use state_fault::StateFault;
 pub use types::{Edge, State};

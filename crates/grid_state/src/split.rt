@@ -1,0 +1,113 @@
+//! The slack node, and the nodes that a state leaves stranded.
+
+ghost use Rattle.std.specs.Prelude.{◌≡◌, ◌<◌, ◌≤◌, ◌==◌, ◌&&◌, ◌||◌, not, length, position, All, IfOk, IfSome};
+ghost use Rattle.grid_state.specs.GridState.{class_at, is_live};
+ghost use Rattle.grid_state.specs.Marks.{MarksMore, first_marked};
+ghost use Rattle.grid_state.specs.Split.{slack_node_of, is_nonzero, injection_of, is_weighted, is_keyed_in, is_keyed, AreKeysOf};
+ghost use Rattle.grid_state.specs.Unions.{AreMarks};
+
+use crate::types::State;
+use fb_types::{Block, Column, Grid, Node, Weight};
+use std::alloc::{AllocError, Global};
+
+/// The first node of type 3, U and angle.
+fn angle_node(nodes: &[Node]) -> Option<usize>
+    ensures first { result ≡ position (λ node. node.kind == 3) nodes.now }
+    ensures within { IfSome result (λ place. place < length nodes.now) }
+{
+    nodes.iter().position(|node| node.kind == 3)
+}
+
+/// The slack node: the one that is named, or else the first node of type 3. There is none exactly where none is named and no
+/// node is of type 3.
+pub fn slack_of(grid: &Grid, named: Option<u32>) -> Option<u32>
+    ensures { result ≡ slack_node_of grid.now.nodes named }
+{
+    match named {
+        Some(node) => Some(node),
+        None => match angle_node(grid.nodes.as_slice()) {
+            Some(place) => Some(place as u32),
+            None => None,
+        },
+    }
+}
+
+/// Whether a weight is other than 0.
+fn is_nonzero(weight: i64) -> bool
+    ensures { result ≡ is_nonzero weight }
+{
+    weight != 0
+}
+
+/// Whether a node feeds something in.
+fn is_injecting(node: &Node) -> bool
+    ensures { result ≡ is_nonzero (injection_of node.now) }
+{
+    i128::from(node.load) + i128::from(node.generation) != 0
+}
+
+/// Marks each node at which a weight other than 0 stands.
+fn mark_weights(marks: &mut [bool], weights: &[Weight])
+    requires { All (λ w. w.node < length marks.old) weights.now }
+    ensures { MarksMore marks.old marks.new (is_weighted weights.now) }
+{
+    for weight in weights {
+        if is_nonzero(weight.weight) {
+            marks[weight.node as usize] = true;
+        }
+    }
+}
+
+/// The same for each block.
+fn mark_blocks(marks: &mut [bool], blocks: &[Block])
+    requires { All (λ block. All (λ w. w.node < length marks.old) block.weights) blocks.now }
+    ensures { MarksMore marks.old marks.new (is_keyed_in blocks.now) }
+{
+    for block in blocks {
+        mark_weights(marks, block.weights.as_slice());
+    }
+}
+
+/// The same for each column.
+fn mark_columns(marks: &mut [bool], columns: &[Column])
+    requires { AreKeysOf (length marks.old) columns.now }
+    ensures { MarksMore marks.old marks.new (is_keyed columns.now) }
+{
+    for column in columns {
+        mark_blocks(marks, column.blocks.as_slice());
+    }
+}
+
+/// Marks, of so many nodes, each that has a key weight.
+pub fn keyed_nodes(alloc: Global, nodes: usize, columns: &[Column]) -> Result<Vec<bool>, AllocError>
+    requires { AreKeysOf nodes columns.now }
+    ensures { IfOk result (λ marks. AreMarks nodes marks.items (is_keyed columns.now)) }
+{
+    let mut marks = vec![in alloc; false; nodes]?;
+    mark_columns(&mut marks, columns);
+    Ok(marks)
+}
+
+/// Whether a node is loaded, and of a class that is not live, where it is told whether the node has a key weight.
+fn is_stranded(state: &State, place: u32, node: &Node, is_keyed: bool) -> bool
+    requires { place < length state.now.class_of }
+    ensures { result ≡ (is_nonzero (injection_of node.now) || is_keyed) && not (is_live state.now (class_at state.now place)) }
+{
+    state.sound();
+    (is_injecting(node) || is_keyed) && !state.live(state.class_of(place))
+}
+
+/// The first node that is loaded, and of a class that is not live, where the nodes with a key weight are marked.
+pub fn first_stranded(state: &State, nodes: &[Node], keyed: &[bool]) -> Option<u32>
+    requires keyed { length keyed.now ≡ length nodes.now }
+    requires classes { length state.now.class_of ≡ length nodes.now }
+    requires few { length nodes.now ≤ 4096 }
+    ensures { result ≡ first_marked state.now keyed.now nodes.now }
+{
+    for (place, node) in nodes.iter().enumerate() {
+        if is_stranded(state, place as u32, node, keyed[place]) {
+            return Some(place as u32);
+        }
+    }
+    None
+}
