@@ -6,3 +6,6 @@ pub mod laws;
 mod residual;
 
 pub use residual::residual_at;
+
+#[cfg(test)]
+mod tests;

@@ -23,9 +23,9 @@ rows_passed live links k d rows h passed are = record {
 }
 
 module _ (live : List Bool) (links : List Link) (k : ℕ) (d : Link) (rows one_row both_rows : List (List Edge)) (h : k < length links) (crossing : is_crossing live (get_or links k d) ≡ true)
-  (below_one : (get_or links k d).one < length live) (below_other : (get_or links k d).other < length live) (are : AreRows live (take k links) rows)
-  (first : one_row ≡ set rows (get_or links k d).one (get_or rows (get_or links k d).one [] ++ (record { to = (get_or links k d).other; b = (get_or links k d).b }) ∷ []))
-  (second : both_rows ≡ set one_row (get_or links k d).other (get_or one_row (get_or links k d).other [] ++ (record { to = (get_or links k d).one; b = (get_or links k d).b }) ∷ [])) where
+    (below_one : (get_or links k d).one < length live) (below_other : (get_or links k d).other < length live) (are : AreRows live (take k links) rows)
+    (first : one_row ≡ set rows (get_or links k d).one (get_or rows (get_or links k d).one [] ++ (record { to = (get_or links k d).other; b = (get_or links k d).b }) ∷ []))
+    (second : both_rows ≡ set one_row (get_or links k d).other (get_or one_row (get_or links k d).other [] ++ (record { to = (get_or links k d).one; b = (get_or links k d).b }) ∷ [])) where
   apart : (get_or links k d).one ≡ (get_or links k d).other → ⊥
   apart = eqb-false (get_or links k d).one (get_or links k d).other (not-true (eqb (get_or links k d).one (get_or links k d).other) (and_parts _ _ crossing).0)
 

@@ -65,10 +65,12 @@ climbs_more old new from at c h ne = record {
     two_below = c.points.before (get_or new at 0) one_in
 
     still : (s : ℕ → Bool) → Follows (set new at two) s → Follows new s
-    still s f = record { both = λ i b. elim (cases_eq i at) [
-      | inl e ↦ subst (λ (k : ℕ). s (get_or new k 0) ≡ s k) (sym e) (sym (follows_other new at two s f (get_or new at 0) (λ same. omega arith) one_in) ∙ follows_here new at two s h f)
-      | inr other ↦ follows_other new at two s f i other b
-    ] }
+    still s f = record {
+      both = λ i b. elim (cases_eq i at) [
+        | inl e ↦ subst (λ (k : ℕ). s (get_or new k 0) ≡ s k) (sym e) (sym (follows_other new at two s f (get_or new at 0) (λ same. omega arith) one_in) ∙ follows_here new at two s h f)
+        | inr other ↦ follows_other new at two s f i other b
+      ];
+    }
 
 -- ---- uniting
 -- a root that points up to an earlier place
@@ -82,10 +84,12 @@ put : (up : List ℕ) (high low : ℕ) → PointsUp up → high < length up → 
 put up high low points h root le = record {
   points = record { before = changed up high low (λ i k. k ≤ i) h le (λ i _ b. points.before i b) };
   there = λ s f e. record { both = changed up high low (λ i k. s k ≡ s i) h e (λ i _ b. f.both i b) };
-  back = λ s f. record { both = λ i b. elim (cases_eq i high) [
-    | inl e ↦ subst (λ (k : ℕ). s (get_or up k 0) ≡ s k) (sym e) (ap s root)
-    | inr other ↦ follows_other up high low s f i other b
-  ] };
+  back = λ s f. record {
+    both = λ i b. elim (cases_eq i high) [
+      | inl e ↦ subst (λ (k : ℕ). s (get_or up k 0) ≡ s k) (sym e) (ap s root)
+      | inr other ↦ follows_other up high low s f i other b
+    ];
+  };
   ends = λ s f. follows_here up high low s h f;
 }
 

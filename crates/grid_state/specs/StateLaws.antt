@@ -2,7 +2,8 @@
 use Rattle.std.proofs.Common.{◌≡◌, ℕ, zero, suc, ◌+◌, ◌<◌, ◌≤◌, Bool, true, false, List, [], length, get_or, map, Some, None, inl, inr, arith, refl, sym, ap, ap₂, subst, ◌∙◌}
 use Rattle.std.specs.List.{enumerate_from}
 use Rattle.std.proofs.lemmas.Bool.{cases_eq, cases_lt, cases_order}
-use Rattle.std.proofs.lemmas.List.{ext_get_or}
+use Rattle.std.proofs.lemmas.List.{ext_get_or, length-map}
+use Rattle.std.proofs.lemmas.List.FromFn.{length-enumerate_from}
 use Rattle.fb_types.specs.declared.grid.Grid.{Grid}
 use Rattle.fb_types.specs.declared.keys.Column.{Column}
 use Rattle.grid_state.specs.declared.types.Edge.{Edge}
@@ -116,3 +117,10 @@ pub not_split : (grid : Grid) (slack : ℕ) (outage : List ℕ) (columns : List 
 not_split grid slack outage columns s is none node split =
     let e = sym none ∙ ap (λ (t : GridState). first_stranded_node t columns grid.nodes) (state_unique grid slack outage s split.state is split.of_grid) ∙ split.first in
     cc
+
+-- a state has a class for each node, and a mark for each branch
+pub length-class_of : (grid : Grid) (slack : ℕ) (outage : List ℕ) (s : GridState) → IsStateOf grid slack outage s → length s.class_of ≡ length grid.nodes
+length-class_of grid slack outage s is = is.classes.each_place
+
+pub length-carries : (grid : Grid) (slack : ℕ) (outage : List ℕ) (s : GridState) → IsStateOf grid slack outage s → length s.carries ≡ length grid.branches
+length-carries grid slack outage s is = ap length is.carries ∙ length-map (enumerate_from 0 grid.branches) (carries_in (is_out outage) s.class_of s.live) ∙ length-enumerate_from 0 grid.branches

@@ -26,7 +26,12 @@ fn node_classes(alloc: Global, grid: &Grid, out: &[bool]) -> Result<Numbering, A
 }
 
 /// The lines and transformers in operation as links of classes, where the branches of the outage are marked.
-fn class_lines(alloc: Global, grid: &Grid, out: &[bool], class_of: &[u32]) -> Result<Vec<Link>, AllocError>
+fn class_lines(
+    alloc: Global,
+    grid: &Grid,
+    out: &[bool],
+    class_of: &[u32],
+) -> Result<Vec<Link>, AllocError>
     requires out { length out.now ≡ length grid.now.branches }
     requires each_node { length class_of.now ≡ length grid.now.nodes }
     ensures { IfOk result (λ lines. lines.items ≡ map (between class_of.now) (links_marked false out.now grid.now.branches)) }
@@ -36,7 +41,12 @@ fn class_lines(alloc: Global, grid: &Grid, out: &[bool], class_of: &[u32]) -> Re
 }
 
 /// The classes that a chain of lines joins to the slack's.
-fn live_classes(alloc: Global, classes: u32, slack: u32, lines: &[Link]) -> Result<Vec<bool>, AllocError>
+fn live_classes(
+    alloc: Global,
+    classes: u32,
+    slack: u32,
+    lines: &[Link],
+) -> Result<Vec<bool>, AllocError>
     requires slack { slack < classes }
     requires lines { AreLinksBelow classes lines.now }
     ensures { IfOk result (λ live. AreReached classes lines.now slack live.items) }
@@ -47,7 +57,15 @@ fn live_classes(alloc: Global, classes: u32, slack: u32, lines: &[Link]) -> Resu
 }
 
 /// The state of a grid, once its classes of nodes are numbered and its lines joined to them.
-fn with_classes(alloc: Global, grid: &Grid, slack: u32, outage: &[u32], out: &[bool], nodes: Numbering, lines: &[Link]) -> Result<State, AllocError>
+fn with_classes(
+    alloc: Global,
+    grid: &Grid,
+    slack: u32,
+    outage: &[u32],
+    out: &[bool],
+    nodes: Numbering,
+    lines: &[Link],
+) -> Result<State, AllocError>
     requires { AreParts grid.now slack outage.now out.now nodes.count nodes.class_of.items lines.now }
     ensures { IfOk result (λ s. IsStateOf grid.now slack outage.now s) }
 {
@@ -61,7 +79,12 @@ fn with_classes(alloc: Global, grid: &Grid, slack: u32, outage: &[u32], out: &[b
 }
 
 /// The state of a grid, whether it is split or not.
-pub fn whole_state(alloc: Global, grid: &Grid, slack: u32, outage: &[u32]) -> Result<State, AllocError>
+pub fn whole_state(
+    alloc: Global,
+    grid: &Grid,
+    slack: u32,
+    outage: &[u32],
+) -> Result<State, AllocError>
     requires slack { slack < length grid.now.nodes }
     requires outage { All (λ k. k < length grid.now.branches) outage.now }
     ensures { IfOk result (λ s. IsStateOf grid.now slack outage.now s) }
@@ -76,7 +99,13 @@ pub fn whole_state(alloc: Global, grid: &Grid, slack: u32, outage: &[u32]) -> Re
 /// is not live feeds something in or has a key weight in some block of some column.
 ///
 /// The slack node, the branches of the outage and the nodes of the weights go by their places in the grid.
-pub fn state(alloc: Global, grid: &Grid, slack: u32, outage: &Items<u32>, columns: &Items<Column>) -> Result<State, StateFault>
+pub fn state(
+    alloc: Global,
+    grid: &Grid,
+    slack: u32,
+    outage: &Items<u32>,
+    columns: &Items<Column>,
+) -> Result<State, StateFault>
     requires slack { slack < length grid.now.nodes }
     requires outage { All (λ k. k < length grid.now.branches) outage.now }
     requires keys { AreKeysOf (length grid.now.nodes) columns.now }

@@ -56,7 +56,12 @@ fn link_of(branch: &Branch) -> Link
 }
 
 /// The couplers, or the lines and transformers, in operation outside the outage, in the order of the branches.
-pub fn links(alloc: Global, branches: &[Branch], out: &[bool], couplers: bool) -> Result<Vec<Link>, AllocError>
+pub fn links(
+    alloc: Global,
+    branches: &[Branch],
+    out: &[bool],
+    couplers: bool,
+) -> Result<Vec<Link>, AllocError>
     requires { length out.now ≡ length branches.now }
     ensures { IfOk result (λ links. links.items ≡ links_marked couplers out.now branches.now) }
 {

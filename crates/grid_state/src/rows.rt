@@ -113,7 +113,13 @@ fn carries(branch: &Branch, out: bool, class_of: &[u32], live: &[bool]) -> bool
 }
 
 /// Whether each branch carries.
-pub fn carrying(alloc: Global, branches: &[Branch], out: &[bool], class_of: &[u32], live: &[bool]) -> Result<Vec<bool>, AllocError>
+pub fn carrying(
+    alloc: Global,
+    branches: &[Branch],
+    out: &[bool],
+    class_of: &[u32],
+    live: &[bool],
+) -> Result<Vec<bool>, AllocError>
     requires out { length out.now ≡ length branches.now }
     requires ends { All (IsBranch (length class_of.now)) branches.now }
     requires classes { All (λ c. c < length live.now) class_of.now }

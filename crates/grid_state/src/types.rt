@@ -39,7 +39,14 @@ impl State {
     ghost use Rattle.grid_state.specs.GridState.{IsKept};
 
     /// A state of these parts.
-    pub(crate) fn new(class_of: Vec<u32>, slack: u32, live: Vec<bool>, rows: Vec<Items<Edge>>, carries: Vec<bool>, sums: Vec<i128>) -> State
+    pub(crate) fn new(
+        class_of: Vec<u32>,
+        slack: u32,
+        live: Vec<bool>,
+        rows: Vec<Items<Edge>>,
+        carries: Vec<bool>,
+        sums: Vec<i128>,
+    ) -> State
         requires { IsKept (record { class_of = class_of.items; slack = slack; live = live.items; rows = rows.items; carries = carries.items }) sums.items }
         ensures { result ≡ record { class_of = class_of.items; slack = slack; live = live.items; rows = rows.items; carries = carries.items } }
     {
