@@ -1,0 +1,3 @@
+pub mod CeilDiv
+pub mod Least
+pub mod Answered

@@ -1,0 +1,4 @@
+pub mod MarginLaws
+pub mod Margins
+pub mod SpreadLaws
+pub mod Spreads
