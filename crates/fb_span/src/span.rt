@@ -12,6 +12,7 @@ use std::alloc::AllocError;
 use std::marker::Model;
 
 /// The numbers from a low end to a high end, which is at least the low one. A contract sees the two ends.
+#[derive(Debug, PartialEq, Eq)]
 pub struct Span<T: Scalar> {
     low: T,
     high: T,
@@ -44,24 +45,28 @@ impl<T: Scalar> Clone for Span<T> {
 
 impl<T: Scalar> Copy for Span<T> {}
 
+/// The lesser of two numbers.
 fn lesser<T: Scalar>(a: T, b: T) -> T
     ensures { T.whole result ≡ int_min (T.whole a) (T.whole b) }
 {
     if b < a { b } else { a }
 }
 
+/// The greater of two numbers.
 fn greater<T: Scalar>(a: T, b: T) -> T
     ensures { T.whole result ≡ int_max (T.whole a) (T.whole b) }
 {
     if a < b { b } else { a }
 }
 
+/// The least of four numbers.
 fn least_of<T: Scalar>(a: T, b: T, c: T, d: T) -> T
     ensures { T.whole result ≡ int_min (int_min (T.whole a) (T.whole b)) (int_min (T.whole c) (T.whole d)) }
 {
     lesser(lesser(a, b), lesser(c, d))
 }
 
+/// The greatest of four numbers.
 fn greatest_of<T: Scalar>(a: T, b: T, c: T, d: T) -> T
     ensures { T.whole result ≡ int_max (int_max (T.whole a) (T.whole b)) (int_max (T.whole c) (T.whole d)) }
 {
@@ -226,7 +231,7 @@ impl<T: Scalar> Span<T> {
     pub fn meet(self, other: Span<T>) -> Option<Span<T>>
         ensures exact { MatchOption result
             (int_min (T.whole self.1) (T.whole other.1) <ℤ int_max (T.whole self.0) (T.whole other.0))
-            (λ s. (T.whole s.0 ≡ int_max (T.whole self.0) (T.whole other.0)) × (T.whole s.1 ≡ int_min (T.whole self.1) (T.whole other.1))) }
+            (λ s. (T.whole s.0 ≡ int_max (T.whole self.0) (T.whole other.0)) × (T.whole s.1 ≡ int_min (T.whole self.1) (T.whole other.1)) × (T.whole s.0 ≤ℤ T.whole s.1)) }
         ensures common { IfSome result (λ s. HoldsCommon (ends_of T.whole self) (ends_of T.whole other) (ends_of T.whole s)) }
         ensures apart { IfNone result (AreApart (ends_of T.whole self) (ends_of T.whole other)) }
     {

@@ -47,8 +47,13 @@ fn gives<T: Scalar>(case: &Case<T>) -> bool {
         && has_ends(Some(Span::exactly(case.factor)), (case.factor, case.factor))
 }
 
+/// The types whose values threads share.
+fn is_shared<T: Send + Sync>() {}
+
 #[test]
 fn operations_at_each_type(rt: HostRuntime) {
+    is_shared::<Span<i64>>();
+    is_shared::<Span<i128>>();
     assert!(rt;
         gives::<i64>(&Case {
             first: (-3, 2),

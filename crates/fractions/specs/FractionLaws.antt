@@ -71,6 +71,9 @@ plus_comm p q = record { same = simp ring }
 pub plus_assoc : (p q r : Fraction) → Same (plus (plus p q) r) (plus p (plus q r))
 plus_assoc p q r = record { same = simp ring }
 
+pub plus_left_comm : (p q r : Fraction) → Same (plus p (plus q r)) (plus q (plus p r))
+plus_left_comm p q r = record { same = simp ring }
+
 pub plus-plus : (p q r s : Fraction) → Same (plus (plus p q) (plus r s)) (plus (plus p r) (plus q s))
 plus-plus p q r s = record { same = simp ring }
 
@@ -117,6 +120,14 @@ minus-whole a b = record { same = step }
   where
     step : (a *ℤ pos 1 +ℤ (negsuc 0 *ℤ b) *ℤ pos 1) *ℤ pos 1 ≡ (a -ℤ b) *ℤ (pos 1 *ℤ pos 1)
     step = simp ring
+
+-- p less q, less p less the sum of q and r, is r
+pub minus-minus_plus : (p q r : Fraction) → Same (minus (minus p q) (minus p (plus q r))) r
+minus-minus_plus p q r = record { same = step p.num p.den q.num q.den r.num r.den }
+  where
+    step : (a b c d e f : ℤ)
+        → ((a *ℤ d +ℤ (negsuc 0 *ℤ c) *ℤ b) *ℤ (b *ℤ (d *ℤ f)) +ℤ (negsuc 0 *ℤ (a *ℤ (d *ℤ f) +ℤ (negsuc 0 *ℤ (c *ℤ f +ℤ e *ℤ d)) *ℤ b)) *ℤ (b *ℤ d)) *ℤ f ≡ e *ℤ ((b *ℤ d) *ℤ (b *ℤ (d *ℤ f)))
+    step a b c d e f = simp ring (omega (arith, linear))
 
 -- ---- multiples
 pub times-whole : (k a : ℤ) → Same (times k (whole a)) (whole (k *ℤ a))

@@ -1,10 +1,10 @@
 -- The laws of sums of fractions over lists.
-use Rattle.std.proofs.Common.{ℤ, pos, ◌<ℤ◌, List, [], ◌∷◌, refl}
-use Rattle.std.specs.List.{All}
+use Rattle.std.proofs.Common.{ℤ, pos, ◌<ℤ◌, List, [], ◌∷◌, Bool, true, false, cond, not, refl}
+use Rattle.std.specs.List.{All, filter}
 use Rattle.std.proofs.lemmas.List.Elements.{All-head, All-tail}
 use Rattle.whole_laws.specs.Ring.{ring}
 use Rattle.fractions.specs.Fractions.{Fraction, whole, plus, times, over, minus, Same, AtMost, total}
-use Rattle.fractions.specs.FractionLaws.{Same_refl, Same_sym, Same_trans, Same-plus, plus-plus, zero-plus, times-plus, over-plus, minus-minus, AtMost_refl, AtMost-plus}
+use Rattle.fractions.specs.FractionLaws.{Same_refl, Same_sym, Same_trans, Same-plus, plus-plus, plus_assoc, plus_left_comm, zero-plus, times-plus, over-plus, minus-minus, AtMost_refl, AtMost-plus}
 
 pub Same-total : {A : Type 0} (f g : A → Fraction) (xs : List A) → All (λ x. Same (f x) (g x)) xs → Same (total f xs) (total g xs)
 Same-total f g [] h = Same_refl _
@@ -38,3 +38,13 @@ total-zero (x ∷ xs) = Same_trans (zero-plus _) (total-zero xs)
 pub total-total : {A B : Type 0} (f : A → B → Fraction) (xs : List A) (ys : List B) → Same (total (λ x. total (f x) ys) xs) (total (λ y. total (λ x. f x y) xs) ys)
 total-total f [] ys = Same_sym (total-zero ys)
 total-total f (x ∷ xs) ys = Same_trans (Same-plus (Same_refl _) (total-total f xs ys)) (Same_sym (total-plus (f x) (λ y. total (λ x. f x y) xs) ys))
+
+-- a sum is the sum over the items that pass a test and the sum over those that do not
+pub total-filter : {A : Type 0} (f : A → Fraction) (p : A → Bool) (xs : List A) → Same (total f xs) (plus (total f (filter p xs)) (total f (filter (λ x. not (p x)) xs)))
+total-filter f p [] = record { same = refl }
+total-filter f p (x ∷ xs) = by_test (p x) (total-filter f p xs)
+  where
+    by_test : (t : Bool) → Same (total f xs) (plus (total f (filter p xs)) (total f (filter (λ y. not (p y)) xs)))
+        → Same (plus (f x) (total f xs)) (plus (total f (cond t (x ∷ filter p xs) (filter p xs))) (total f (cond (not t) (x ∷ filter (λ y. not (p y)) xs) (filter (λ y. not (p y)) xs))))
+    by_test true h = Same_trans (Same-plus (Same_refl (f x)) h) (Same_sym (plus_assoc (f x) (total f (filter p xs)) (total f (filter (λ y. not (p y)) xs))))
+    by_test false h = Same_trans (Same-plus (Same_refl (f x)) h) (plus_left_comm (f x) (total f (filter p xs)) (total f (filter (λ y. not (p y)) xs)))

@@ -1,3 +1,5 @@
+pub mod ExchangeLaws
+pub mod Exchanges
 pub mod MarginLaws
 pub mod Margins
 pub mod SpreadLaws
