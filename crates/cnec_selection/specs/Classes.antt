@@ -11,7 +11,8 @@ use Rattle.cnec_selection.specs.declared.Class.TheVariants.{Below, Doubtful, Cer
 abbrev pub level_of : ℕ → ℤ
 level_of threshold = pos threshold *ℤ pos 1_000_000_000
 
--- below where the high end is below the threshold, certain where the low end is at least the threshold, and doubtful otherwise
+-- below where the high end is below the threshold, certain where the low end is at least the threshold, and doubtful
+-- otherwise
 abbrev pub class_of : ℤ × ℤ → ℕ → Class
 class_of spread threshold =
     if int_lt spread.1 (level_of threshold) then Below else (if int_le (level_of threshold) spread.0 then Certain else Doubtful)

@@ -29,4 +29,5 @@ spread_high factors = greatest_whole (map high_end factors) -ℤ least_whole (ma
 
 -- the spread lies in the span wherever each factor lies in its own
 abbrev pub HoldsSpread : List (ℤ × ℤ) → ℤ × ℤ → Type 0
-HoldsSpread spans spread = (factors : List Fraction) → EachLiesAt trillion spans factors → LiesAt trillion spread (spread_of factors)
+HoldsSpread spans spread = (factors : List Fraction)
+    → EachLiesAt trillion spans factors → LiesAt trillion spread (spread_of factors)

@@ -70,8 +70,9 @@ pub fn zone_to_zone(core_factors: &Items<Span<i128>>) -> Span<i128>
     Span::between(low.max(0), high)
 }
 
-/// Whether a row is selected, by the span of its spread: its spread is below the threshold, it may be on either side, or it
-/// is at least the threshold.
+/// Whether a row is selected, by the span of its spread: the spread is below the threshold, may be on either side, or is at
+/// least the threshold. (Core day-ahead capacity calculation methodology, ACER decision 02-2019, annex I, where the threshold
+/// is five per cent.)
 #[derive(Clone, Copy, Debug, PartialEq, Eq)]
 pub enum Class {
     Below,

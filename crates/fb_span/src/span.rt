@@ -76,7 +76,8 @@ fn greatest_of<T: Scalar>(a: T, b: T, c: T, d: T) -> T
 impl<T: Scalar> Span<T> {
     /// The span from `low` to `high`, or none exactly where `low` is above `high`.
     pub fn new(low: T, high: T) -> Option<Span<T>>
-        ensures { MatchOption result (T.whole high <ℤ T.whole low) (λ s. (s ≡ (low, high)) × (T.whole low ≤ℤ T.whole high)) }
+        ensures { MatchOption result (T.whole high <ℤ T.whole low)
+            (λ s. (s ≡ (low, high)) × (T.whole low ≤ℤ T.whole high)) }
     {
         if high < low {
             None
@@ -128,7 +129,8 @@ impl<T: Scalar> Span<T> {
     pub fn add(self, other: Span<T>) -> Option<Span<T>>
         ensures exact { IsExactSpan T.whole (T.whole T.LOW) (T.whole T.HIGH) result
             (T.whole self.0 +ℤ T.whole other.0) (T.whole self.1 +ℤ T.whole other.1) }
-        ensures least { IfSome result (λ s. IsLeastOfTwo plus (ends_of T.whole self) (ends_of T.whole other) (ends_of T.whole s)) }
+        ensures least { IfSome result (λ s. IsLeastOfTwo plus
+            (ends_of T.whole self) (ends_of T.whole other) (ends_of T.whole s)) }
     {
         let low = self.low.plus(other.low)?;
         let high = self.high.plus(other.high)?;
@@ -139,7 +141,8 @@ impl<T: Scalar> Span<T> {
     pub fn sub(self, other: Span<T>) -> Option<Span<T>>
         ensures exact { IsExactSpan T.whole (T.whole T.LOW) (T.whole T.HIGH) result
             (T.whole self.0 -ℤ T.whole other.1) (T.whole self.1 -ℤ T.whole other.0) }
-        ensures least { IfSome result (λ s. IsLeastOfTwo minus (ends_of T.whole self) (ends_of T.whole other) (ends_of T.whole s)) }
+        ensures least { IfSome result (λ s. IsLeastOfTwo minus
+            (ends_of T.whole self) (ends_of T.whole other) (ends_of T.whole s)) }
     {
         let low = self.low.minus(other.high)?;
         let high = self.high.minus(other.low)?;
@@ -151,7 +154,8 @@ impl<T: Scalar> Span<T> {
         ensures exact { IsExactSpan T.whole (T.whole T.LOW) (T.whole T.HIGH) result
             (int_min (T.whole k *ℤ T.whole self.0) (T.whole k *ℤ T.whole self.1))
             (int_max (T.whole k *ℤ T.whole self.0) (T.whole k *ℤ T.whole self.1)) }
-        ensures least { IfSome result (λ s. IsLeastOfOne (times (T.whole k)) (ends_of T.whole self) (ends_of T.whole s)) }
+        ensures least { IfSome result (λ s. IsLeastOfOne (times (T.whole k))
+            (ends_of T.whole self) (ends_of T.whole s)) }
     {
         let of_low = k.times(self.low)?;
         let of_high = k.times(self.high)?;
@@ -166,7 +170,8 @@ impl<T: Scalar> Span<T> {
         ensures exact { IsExactSpan T.whole (T.whole T.LOW) (T.whole T.HIGH) result
             (least_corner (ends_of T.whole self) (ends_of T.whole other))
             (greatest_corner (ends_of T.whole self) (ends_of T.whole other)) }
-        ensures least { IfSome result (λ s. IsLeastOfTwo product (ends_of T.whole self) (ends_of T.whole other) (ends_of T.whole s)) }
+        ensures least { IfSome result (λ s. IsLeastOfTwo product
+            (ends_of T.whole self) (ends_of T.whole other) (ends_of T.whole s)) }
     {
         let low_low = self.low.times(other.low)?;
         let low_high = self.low.times(other.high)?;
@@ -195,7 +200,8 @@ impl<T: Scalar> Span<T> {
     pub fn max(self, other: Span<T>) -> Span<T>
         ensures low { T.whole result.0 ≡ int_max (T.whole self.0) (T.whole other.0) }
         ensures high { T.whole result.1 ≡ int_max (T.whole self.1) (T.whole other.1) }
-        ensures holds { HoldsAll maximum (ends_of T.whole self) (ends_of T.whole other) (ends_of T.whole result) }
+        ensures holds { HoldsAll maximum
+            (ends_of T.whole self) (ends_of T.whole other) (ends_of T.whole result) }
     {
         Span {
             low: greater(self.low, other.low),
@@ -207,7 +213,8 @@ impl<T: Scalar> Span<T> {
     pub fn min(self, other: Span<T>) -> Span<T>
         ensures low { T.whole result.0 ≡ int_min (T.whole self.0) (T.whole other.0) }
         ensures high { T.whole result.1 ≡ int_min (T.whole self.1) (T.whole other.1) }
-        ensures holds { HoldsAll minimum (ends_of T.whole self) (ends_of T.whole other) (ends_of T.whole result) }
+        ensures holds { HoldsAll minimum
+            (ends_of T.whole self) (ends_of T.whole other) (ends_of T.whole result) }
     {
         Span {
             low: lesser(self.low, other.low),
@@ -231,8 +238,11 @@ impl<T: Scalar> Span<T> {
     pub fn meet(self, other: Span<T>) -> Option<Span<T>>
         ensures exact { MatchOption result
             (int_min (T.whole self.1) (T.whole other.1) <ℤ int_max (T.whole self.0) (T.whole other.0))
-            (λ s. (T.whole s.0 ≡ int_max (T.whole self.0) (T.whole other.0)) × (T.whole s.1 ≡ int_min (T.whole self.1) (T.whole other.1)) × (T.whole s.0 ≤ℤ T.whole s.1)) }
-        ensures common { IfSome result (λ s. HoldsCommon (ends_of T.whole self) (ends_of T.whole other) (ends_of T.whole s)) }
+            (λ s. (T.whole s.0 ≡ int_max (T.whole self.0) (T.whole other.0))
+            × (T.whole s.1 ≡ int_min (T.whole self.1) (T.whole other.1))
+            × (T.whole s.0 ≤ℤ T.whole s.1)) }
+        ensures common { IfSome result (λ s. HoldsCommon
+            (ends_of T.whole self) (ends_of T.whole other) (ends_of T.whole s)) }
         ensures apart { IfNone result (AreApart (ends_of T.whole self) (ends_of T.whole other)) }
     {
         Span::new(greater(self.low, other.low), lesser(self.high, other.high))

@@ -11,7 +11,13 @@ picowatts = pos 1_000_000_000_000
 
 -- the numbers of an element as the call is given them
 abbrev pub numbers_of : ℤ → ℤ → ℕ → ℤ → ℤ → ElementNumbers
-numbers_of limit margin ramr cva iva = record { limit = limit; reliability_margin = margin; minimum_share = pos ramr; coordinated = cva; individual = iva }
+numbers_of limit margin ramr cva iva = record {
+  limit = limit;
+  reliability_margin = margin;
+  minimum_share = pos ramr;
+  coordinated = cva;
+  individual = iva;
+}
 
 -- the margin from F0,Core and Fuaf, all in picowatts:
 -- max(Ramr·Fmax·10^9 − Fuaf, Fmax·2·10^11, (Fmax − FRM)·10^12 − F0,Core) − (CVA + IVA)·10^12
@@ -24,4 +30,5 @@ margin_at e f0core fuaf =
 
 -- the margin lies in the span wherever F0,Core and Fuaf lie in theirs
 abbrev pub HoldsMargin : ElementNumbers → ℤ × ℤ → ℤ × ℤ → ℤ × ℤ → Type 0
-HoldsMargin e f0core fuaf margin = (f0 external : Fraction) → LiesAt picowatts f0core f0 → LiesAt picowatts fuaf external → LiesAt picowatts margin (ram_of e f0 external)
+HoldsMargin e f0core fuaf margin = (f0 external : Fraction)
+    → LiesAt picowatts f0core f0 → LiesAt picowatts fuaf external → LiesAt picowatts margin (ram_of e f0 external)

@@ -41,9 +41,13 @@ ram_of e f0core fuaf =
 -- what the flow may be at most: Fmax − FRM + AMR − CVA − IVA
 abbrev pub top_of : ElementNumbers → Fraction → Fraction → Fraction
 top_of e f0core fuaf =
-    minus (minus (plus (minus (whole e.limit) (whole e.reliability_margin)) (adjustment_of e f0core fuaf)) (whole e.coordinated)) (whole e.individual)
+    minus
+    (minus (plus (minus (whole e.limit) (whole e.reliability_margin)) (adjustment_of e f0core fuaf)) (whole e.coordinated))
+    (whole e.individual)
 
 -- the margin without its adjustment written out: max(Ramr·Fmax − Fuaf, 0.2·Fmax, Fmax − FRM − F0,Core) − (CVA + IVA)
 abbrev pub shortened_ram_of : ElementNumbers → Fraction → Fraction → Fraction
 shortened_ram_of e f0core fuaf =
-    minus (maximum (maximum (minus (minimum_of e) fuaf) (fifth_of e)) (room_of e f0core)) (whole (e.coordinated +ℤ e.individual))
+    minus
+    (maximum (maximum (minus (minimum_of e) fuaf) (fifth_of e)) (room_of e f0core))
+    (whole (e.coordinated +ℤ e.individual))
