@@ -6,8 +6,9 @@ use Rattle.std.proofs.lemmas.List.Elements.{All-head, All-tail, All-take, All-we
 use Rattle.grid_state.specs.declared.types.Edge.{Edge}
 use Rattle.grid_state.specs.GridState.{GridState, row_of, classes_of, is_free, susceptance_over, susceptance_of, IsEdge, IsSound}
 use Rattle.whole_laws.specs.Sums.{at, IsWithin}
-use Rattle.std.proofs.lemmas.Bool.{cases_eq, cond-true}
-use Rattle.std.proofs.Math.Nat.{le-max_left, le-max_right}
+use Rattle.std.proofs.lemmas.Bool.{cases_eq, cond-true, cond_both}
+use Rattle.std.proofs.Math.Nat.{le-max_left, le-max_right, max-le}
+use Rattle.whole_laws.specs.SumLaws.{within_times}
 use Rattle.grid_laplacian.specs.Laws.{drop_over}
 use Rattle.grid_laplacian.specs.Sizes.{greatest_below, free_susceptance_of, greatest_susceptance_of}
 use Rattle.grid_laplacian.specs.Rooms.{HasRoom}
@@ -166,3 +167,36 @@ row_room s p w class sound h free p_len w_len p_small w_small =
       here_small = All-get_or (λ z. here * nat_abs z ≤ 2 ^ 121) w class (pos 0) (omega arith) each;
       there_small = each;
     }
+
+-- ---- how large a susceptance can be
+row_small : (n : ℕ) (es : List Edge) → All (λ e. IsEdge n e) es → susceptance_over es ≤ length es * 100000000000
+row_small n [] all = omega arith
+row_small n (e ∷ es) all =
+    let here = (All-head (λ x. IsEdge n x) e es all).small in
+    let rest = row_small n es (All-tail (λ x. IsEdge n x) e es all) in
+    omega arith
+
+pub susceptance_small : (s : GridState) (class : ℕ) → IsSound s → class < classes_of s → susceptance_of s class ≤ 16384 * 100000000000
+susceptance_small s class sound h =
+    let edges : All (λ x. IsEdge (classes_of s) x) (row_of s class) = All-get_or (λ r. All (λ x. IsEdge (classes_of s) x) r) s.rows class [] (omega (arith, sound.same_length)) sound.edges in
+    let few : length (row_of s class) ≤ 16384 = All-get_or (λ r. length r ≤ 16384) s.rows class [] (omega (arith, sound.same_length)) sound.few_edges in
+    let most = row_small (classes_of s) (row_of s class) edges in
+    omega arith
+
+greatest_le : (n : ℕ) (f : ℕ → ℕ) (m : ℕ) → ((i : ℕ) → i < n → f i ≤ m) → greatest_below n f ≤ m
+greatest_le zero f m each = omega arith
+greatest_le (suc n) f m each = max-le (greatest_le n f m (λ i h. each i (omega arith))) (each n (omega arith))
+
+pub greatest_small : (s : GridState) → IsSound s → greatest_susceptance_of s ≤ 16384 * 100000000000
+greatest_small s sound =
+    greatest_le (classes_of s) (free_susceptance_of s) (16384 * 100000000000) (λ i h. cond_both (is_free s i) (susceptance_of s i) 0 (λ k. k ≤ 16384 * 100000000000) (λ e. susceptance_small s i sound h) (λ e. omega arith))
+
+-- so numbers of 64 bits have room
+pub narrow_times : (g : ℕ) (z : ℤ) → g ≤ 16384 * 100000000000 → IsWithin (2 ^ 63) z → IsWithin (2 ^ 121) (pos g *ℤ z)
+narrow_times g z le h =
+    let size : IsWithin g (pos g) = record { low = omega (arith, ints); high = omega (arith, ints) } in
+    let times = within_times g (2 ^ 63) (pos g) z size h in
+    let low = times.low in
+    let high = times.high in
+    let more : g * 2 ^ 63 ≤ 2 ^ 121 = omega arith in
+    record { low = omega (arith, ints); high = omega (arith, ints) }

@@ -1,10 +1,10 @@
 -- The labels of trees are the classes that links make.
-use Rattle.std.proofs.Common.{◌≡◌, ℕ, zero, suc, ◌+◌, ◌<◌, ◌≤◌, Bool, true, false, eqb, List, [], ◌∷◌, ◌++◌, inl, inr, length, get_or, All, arith, refl, sym, ap, subst, ◌∙◌}
+use Rattle.std.proofs.Common.{◌≡◌, ℕ, ◌+◌, ◌<◌, eqb, List, [], ◌∷◌, ◌++◌, inl, inr, length, get_or, arith, refl, sym, ap, ◌∙◌}
 use Rattle.std.proofs.lemmas.Bool.{cases_eq, eq-eqb, eqb-true}
 use Rattle.std.proofs.lemmas.List.{get_or_append_left, get_or_push, length_push}
 use Rattle.grid_state.specs.declared.links.Link.{Link}
-use Rattle.grid_state.specs.Links.{IsJoined, AreClasses}
-use Rattle.grid_state.specs.Unions.{Respects, Follows, PointsUp, ArePlacesApart, AreTrees, AreLabels}
+use Rattle.grid_state.specs.Links.{AreClasses}
+use Rattle.grid_state.specs.Unions.{Respects, ArePlacesApart, AreTrees, AreLabels}
 use Rattle.grid_state.proofs.Chains.{same_side, joined_from_sets}
 
 -- each place a tree of its own

@@ -1,12 +1,11 @@
 -- Links of branches, one branch more at a time.
-use Rattle.std.proofs.Common.{◌≡◌, ℕ, ◌+◌, ◌<◌, ◌≤◌, Bool, true, false, cond, not, ◌&&◌, List, [], ◌∷◌, ◌++◌, length, get_or, map, take, All, arith, refl, sym, ap, subst, ◌∙◌}
+use Rattle.std.proofs.Common.{◌≡◌, ℕ, ◌+◌, ◌<◌, ◌≤◌, Bool, true, false, cond, not, ◌&&◌, List, [], ◌∷◌, ◌++◌, length, get_or, map, take, arith, sym, ap, ◌∙◌}
 use Rattle.std.specs.List.{filter, enumerate_from}
 use Rattle.std.proofs.lemmas.Bool.{cond-true, cond-false}
 use Rattle.std.proofs.lemmas.List.{map-append, map_more, append-nil, take_all}
 use Rattle.std.proofs.lemmas.List.FromFn.{length-enumerate_from, get_or-enumerate_from}
 use Rattle.std.proofs.lemmas.List.Elements.{filter_more, filter_agree}
 use Rattle.fb_types.specs.declared.grid.Branch.{Branch}
-use Rattle.grid_state.specs.declared.links.Link.{Link}
 use Rattle.grid_state.specs.Links.{is_wanted, is_chosen, link_of, links_of, is_out}
 use Rattle.grid_state.specs.Unions.{links_before, carries_before, AreMarks}
 use Rattle.grid_state.specs.Rows.{carries_in}

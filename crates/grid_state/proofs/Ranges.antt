@@ -1,18 +1,18 @@
 -- The ranges of the links that a grid gives.
-use Rattle.std.proofs.Common.{◌≡◌, ◌≢◌, ℕ, zero, suc, ◌+◌, ◌<◌, ◌≤◌, ◌^◌, Bool, true, false, not, cond, ◌&&◌, ℤ, pos, negsuc, ◌≤ℤ◌, List, [], ◌∷◌, length, get_or, map, filter, All, arith, refl, sym, ap, subst, ◌∙◌, lit≤}
+use Rattle.std.proofs.Common.{◌≡◌, ℕ, suc, ◌+◌, ◌<◌, ◌≤◌, ◌^◌, Bool, true, false, not, cond, ◌&&◌, ℤ, pos, ◌≤ℤ◌, List, [], ◌∷◌, length, get_or, map, filter, All, arith, ap}
 use Rattle.std.specs.Prelude.{unsigned_abs}
 use Rattle.std.specs.List.{enumerate_from}
 use Rattle.std.proofs.lemmas.Int.{ints}
-use Rattle.std.proofs.lemmas.Bool.{cases_Bool, both_ways, and_parts, not-true, cond-true, cond-false}
+use Rattle.std.proofs.lemmas.Bool.{both_ways, and_parts, not-true}
 use Rattle.std.proofs.lemmas.List.{length-map}
 use Rattle.std.proofs.lemmas.List.FromFn.{length-enumerate_from}
 use Rattle.std.proofs.lemmas.List.Elements.{All-head, All-tail, All-cons, All-nil, All-map, All-filter, All-weaker, All-get_or, filter_passes}
 use Rattle.fb_types.specs.declared.grid.Branch.{Branch}
 use Rattle.fb_types.specs.declared.grid.BranchKind.{BranchKind}
-use Rattle.fb_types.specs.declared.grid.BranchKind.TheVariants.{Line, Transformer, Coupler}
+use Rattle.fb_types.specs.declared.grid.BranchKind.TheVariants.{Coupler}
 use Rattle.fb_types.specs.GridRanges.{IsBranch, IsRunning, AreBranches}
 use Rattle.grid_state.specs.declared.links.Link.{Link}
-use Rattle.grid_state.specs.Links.{is_coupler_kind, is_coupler, is_line, is_wanted, is_chosen, link_of, links_of, between}
+use Rattle.grid_state.specs.Links.{is_coupler_kind, is_wanted, is_chosen, link_of, links_of, between}
 use Rattle.grid_state.specs.Unions.{AreLinksBelow, IsLineBelow}
 
 -- what holds of each branch holds with its number

@@ -1,17 +1,15 @@
 -- A state of a grid is sound.
-use Rattle.std.proofs.Common.{◌≡◌, ℕ, zero, suc, ◌+◌, ◌<◌, ◌≤◌, Bool, true, false, eqb, not, ◌&&◌, List, [], ◌∷◌, length, get_or, map, All, inl, inr, ◌⊎◌, arith, refl, sym, ap, ap₂, subst, ◌∙◌}
+use Rattle.std.proofs.Common.{◌≡◌, ℕ, ◌<◌, ◌≤◌, Bool, true, false, eqb, not, ◌&&◌, List, [], length, get_or, All, inl, inr, ◌⊎◌, arith, refl, sym, ap, subst, ◌∙◌}
 use Rattle.std.specs.List.{enumerate_from}
-use Rattle.std.proofs.lemmas.Bool.{cases_Bool, cases_eq, cases_lt, both_ways, and_parts, and_from, not_from_false, ne_eqb, true_from_ne_false}
+use Rattle.std.proofs.lemmas.Bool.{cases_eq, cases_lt, and_parts, and_from, not_from_false, ne_eqb, true_from_ne_false}
 use Rattle.std.proofs.lemmas.List.{length-map, get_or_default, get_or_past}
 use Rattle.std.proofs.lemmas.List.Elements.{All-get_or, All-from_get_or}
 use Rattle.std.proofs.lemmas.List.FromFn.{length-enumerate_from}
 use Rattle.fb_types.specs.declared.grid.Grid.{Grid}
-use Rattle.fb_types.specs.declared.grid.Branch.{Branch}
-use Rattle.fb_types.specs.GridRanges.{AreBranches}
 use Rattle.grid_state.specs.declared.types.Edge.{Edge}
 use Rattle.grid_state.specs.declared.links.Link.{Link}
-use Rattle.grid_state.specs.GridState.{GridState, classes_of, class_at, is_live, row_of, weight, weight_to, IsEdge, IsClosed, IsSound}
-use Rattle.grid_state.specs.Links.{is_out, is_wanted, lines_of, between, IsJoined, AreClasses, AreReached}
+use Rattle.grid_state.specs.GridState.{GridState, classes_of, weight_to, IsEdge, IsSound}
+use Rattle.grid_state.specs.Links.{is_out, is_wanted, lines_of, between, IsJoined, AreReached}
 use Rattle.grid_state.specs.Rows.{is_crossing, edges_at, AreRows, carries_in}
 use Rattle.grid_state.specs.States.{class_lines_of, IsStateOf}
 use Rattle.grid_state.specs.Unions.{Respects, IsLineBelow}

@@ -1,5 +1,5 @@
 -- The first stranded node, one node at a time.
-use Rattle.std.proofs.Common.{◌≡◌, ℕ, zero, suc, [], ◌∷◌, ltb, ap₂, ◌+◌, ◌<◌, ◌≤◌, Bool, true, false, not, cond, pos, ◌&&◌, ◌||◌, List, length, get_or, Option, Some, None, inl, inr, arith, refl, sym, ap, subst, ◌∙◌}
+use Rattle.std.proofs.Common.{◌≡◌, ℕ, [], ◌∷◌, ltb, ap₂, ◌+◌, ◌<◌, ◌≤◌, Bool, true, false, not, cond, pos, ◌&&◌, ◌||◌, List, length, get_or, Some, None, inl, inr, arith, refl, sym, ap, subst, ◌∙◌}
 use Rattle.std.specs.Prelude.{position}
 use Rattle.std.specs.List.{enumerate_from, position_or_len}
 use Rattle.std.proofs.lemmas.Bool.{cases_eq, cond-true, cond-false, lt-ltb, le-ltb}

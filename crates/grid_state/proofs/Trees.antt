@@ -1,8 +1,8 @@
 -- Trees of places: climbing to a root, uniting two trees, and labelling the places.
-use Rattle.std.proofs.Common.{◌≡◌, ℕ, zero, suc, ◌+◌, ◌<◌, ◌≤◌, ◌⊎◌, inl, inr, Bool, true, false, eqb, List, [], ◌∷◌, ◌++◌, length, get_or, set, take, All, arith, refl, sym, ap, subst, ◌∙◌, below_more, length-set, get_or-set_same, get_or-set_other}
-use Rattle.std.proofs.lemmas.Bool.{cases_eq, cases_lt}
-use Rattle.std.proofs.lemmas.List.{get_or_read, length-take-le, get_or-take, get_or-append_right, get_or_append_left, get_or_push, length_push}
-use Rattle.std.proofs.lemmas.List.Elements.{All-more, All-push, All-weaker, All-get_or, All-take}
+use Rattle.std.proofs.Common.{◌≡◌, ℕ, ◌+◌, ◌<◌, ◌≤◌, ◌⊎◌, inl, inr, Bool, List, [], ◌∷◌, ◌++◌, length, get_or, set, take, arith, refl, sym, ap, subst, ◌∙◌, length-set, get_or-set_same, get_or-set_other}
+use Rattle.std.proofs.lemmas.Bool.{cases_eq}
+use Rattle.std.proofs.lemmas.List.{get_or_read, length-take-le, get_or-take, get_or_append_left, get_or_push, length_push}
+use Rattle.std.proofs.lemmas.List.Elements.{All-more, All-push, All-weaker, All-get_or}
 use Rattle.grid_state.specs.declared.links.Link.{Link}
 use Rattle.grid_state.specs.Unions.{Respects, Follows, PointsUp, Climbs, Unites, AreTrees, AreLabels, LabelsFirst}
 

@@ -1,12 +1,12 @@
 -- The rows that links make: their ranges, and the weights between classes.
-use Rattle.std.proofs.Common.{◌≡◌, ℕ, zero, suc, ◌+◌, ◌*◌, ◌<◌, ◌≤◌, Bool, true, false, eqb, cond, not, ◌&&◌, List, [], ◌∷◌, ◌++◌, length, get_or, All, Option, Some, None, inl, inr, ◌⊎◌, arith, refl, sym, ap, ap₂, subst, ◌∙◌}
-use Rattle.std.specs.List.{filter_map, cons_option}
-use Rattle.std.proofs.lemmas.Bool.{cases_Bool, both_ways, cond-true, cond-false, and_parts, and_cases, not-true, eqb-true, eqb-false, eq-eqb}
+use Rattle.std.proofs.Common.{◌≡◌, ℕ, zero, suc, ◌+◌, ◌<◌, ◌≤◌, Bool, true, false, eqb, cond, not, ◌&&◌, List, [], ◌∷◌, length, get_or, All, Option, Some, None, arith, refl, sym, ap, ap₂, ◌∙◌}
+use Rattle.std.specs.List.{cons_option}
+use Rattle.std.proofs.lemmas.Bool.{both_ways, cond-true, and_parts, not-true, eqb-true, eqb-false, eq-eqb}
 use Rattle.std.proofs.lemmas.List.Elements.{All-head, All-tail, All-cons, All-nil}
 use Rattle.grid_state.specs.declared.types.Edge.{Edge}
 use Rattle.grid_state.specs.declared.links.Link.{Link}
 use Rattle.grid_state.specs.GridState.{IsEdge, weight_to}
-use Rattle.grid_state.specs.Rows.{is_crossing, end_seen, edge_seen, edges_at}
+use Rattle.grid_state.specs.Rows.{is_crossing, edge_seen, edges_at}
 use Rattle.grid_state.specs.Unions.{IsLineBelow}
 
 -- ---- ranges

@@ -1,5 +1,5 @@
 -- Slack nodes, and the nodes that a state leaves stranded.
-use Rattle.std.specs.Prelude.{◌≡◌, ℕ, ◌<◌, Bool, not, ◌&&◌, ◌||◌, ◌==◌, ℤ, ◌-ℤ◌, neg_ℤ, ⊤, List, length, Option, Some, None, position, All, unsigned_abs}
+use Rattle.std.specs.Prelude.{◌≡◌, ℕ, ◌<◌, Bool, not, ◌&&◌, ◌||◌, ◌==◌, ℤ, ◌-ℤ◌, neg_ℤ, ⊤, List, Option, Some, None, position, All, unsigned_abs}
 use Rattle.std.specs.List.{list_any, enumerate_from}
 use Rattle.fb_types.specs.declared.grid.Node.{Node}
 use Rattle.fb_types.specs.declared.grid.Grid.{Grid}

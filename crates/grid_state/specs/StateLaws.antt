@@ -1,5 +1,5 @@
 -- A grid, a slack node and an outage have one state, and one first stranded node.
-use Rattle.std.proofs.Common.{◌≡◌, ℕ, zero, suc, ◌+◌, ◌<◌, ◌≤◌, Bool, true, false, List, [], length, get_or, map, Some, None, inl, inr, arith, refl, sym, ap, ap₂, subst, ◌∙◌}
+use Rattle.std.proofs.Common.{◌≡◌, ℕ, zero, suc, ◌<◌, ◌≤◌, Bool, true, false, List, [], length, get_or, map, Some, None, inl, inr, arith, refl, sym, ap, ap₂, subst, ◌∙◌}
 use Rattle.std.specs.List.{enumerate_from}
 use Rattle.std.proofs.lemmas.Bool.{cases_eq, cases_lt, cases_order}
 use Rattle.std.proofs.lemmas.List.{ext_get_or, length-map}
@@ -8,9 +8,9 @@ use Rattle.fb_types.specs.declared.grid.Grid.{Grid}
 use Rattle.fb_types.specs.declared.keys.Column.{Column}
 use Rattle.grid_state.specs.declared.types.Edge.{Edge}
 use Rattle.grid_state.specs.declared.links.Link.{Link}
-use Rattle.grid_state.specs.GridState.{GridState, classes_of, class_at, is_live}
-use Rattle.grid_state.specs.Links.{is_out, couplers_of, IsJoined, AreClasses, AreReached}
-use Rattle.grid_state.specs.Rows.{AreRows, carries_in, edges_at}
+use Rattle.grid_state.specs.GridState.{GridState, classes_of}
+use Rattle.grid_state.specs.Links.{is_out, couplers_of, AreClasses, AreReached}
+use Rattle.grid_state.specs.Rows.{AreRows, carries_in}
 use Rattle.grid_state.specs.Split.{first_stranded_node, IsSplit}
 use Rattle.grid_state.specs.States.{class_lines_of, IsStateOf}
 

@@ -1,4 +1,3 @@
-use Rattle.std.proofs.Common.{ap, ◌∙◌}
 use Rattle.grid_state.proofs.Building.{node_lines_below}
 use Rattle.grid_state.proofs.build.class_lines.Goals as goal
 

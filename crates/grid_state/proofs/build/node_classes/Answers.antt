@@ -1,4 +1,3 @@
-use Rattle.std.proofs.Common.{ap, ◌∙◌}
 use Rattle.grid_state.proofs.Building.{couplers_below}
 use Rattle.grid_state.proofs.build.node_classes.Goals as goal
 

@@ -1,4 +1,4 @@
-use Rattle.grid_state.proofs.Building.{parts_lines_below, parts_slack_below, parts_short_rows, parts_state, parts_kept}
+use Rattle.grid_state.proofs.Building.{parts_lines_below, parts_short_rows, parts_state, parts_kept}
 use Rattle.grid_state.proofs.build.with_classes.Goals as goal
 
 pub live_classes-requires-clause-lines : goal.live_classes-requires-clause-lines

@@ -1,5 +1,4 @@
-use Rattle.std.proofs.Common.{arith}
-use Rattle.grid_state.proofs.Trees.{labels_none, labels_more_root, labels_more_under}
+use Rattle.grid_state.proofs.Trees.{labels_more_root, labels_more_under}
 use Rattle.grid_state.proofs.components.labelled.Goals as goal
 use Rattle.grid_state.proofs.components.labelled.Goals.{then-above-place+in_ok-push, else-above-place+in_ok-push-2}
 

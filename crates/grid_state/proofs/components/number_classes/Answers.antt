@@ -1,6 +1,4 @@
-use Rattle.std.proofs.Common.{List, ℕ, length, ◌≡◌, Result, Ok, Err, IfOk, ◌∙◌, subst, sym}
-use Rattle.grid_state.specs.Links.{AreClasses}
-use Rattle.grid_state.specs.Unions.{AreLabels}
+use Rattle.std.proofs.Common.{Result, Ok, Err, IfOk}
 use Rattle.grid_state.proofs.Classes.{classes_of_labels}
 use Rattle.grid_state.proofs.components.number_classes.Goals as goal
 

@@ -1,6 +1,5 @@
-use Rattle.std.proofs.Common.{length, rules, sym, ◌∙◌, ap}
+use Rattle.std.proofs.Common.{length, rules, ◌∙◌, ap}
 use Rattle.std.proofs.lemmas.List.{with_items_is, places}
-use Rattle.grid_state.specs.Unions.{AreTrees, AreLinksBelow}
 use Rattle.grid_state.proofs.Classes.{trees_apart}
 use Rattle.grid_state.proofs.components.trees.Goals as goal
 

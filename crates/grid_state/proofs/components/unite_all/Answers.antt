@@ -1,4 +1,3 @@
-use Rattle.std.proofs.Common.{arith}
 use Rattle.grid_state.proofs.Trees.{trees_more}
 use Rattle.grid_state.proofs.components.unite_all.Goals as goal
 

@@ -1,5 +1,4 @@
-use Rattle.std.proofs.Common.{ap, sym, ◌∙◌, ◌++◌, ◌∷◌, [], List, arith}
-use Rattle.grid_state.specs.declared.links.Link.{Link}
+use Rattle.std.proofs.Common.{sym, ◌∙◌}
 use Rattle.grid_state.proofs.LinkLists.{links_chosen, links_passed, links_all}
 use Rattle.grid_state.proofs.links.links.Goals as goal
 use Rattle.grid_state.proofs.links.links.Goals.{then-is_chosen+in_ok-push, else-is_chosen}

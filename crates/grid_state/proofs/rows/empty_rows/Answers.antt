@@ -1,4 +1,4 @@
-use Rattle.std.proofs.Common.{arith, length, ◌∙◌, ap, ◌+◌}
+use Rattle.std.proofs.Common.{arith, ◌∙◌, ap, ◌+◌}
 use Rattle.std.proofs.lemmas.List.{length_push}
 use Rattle.grid_state.proofs.RowLists.{rows_none, empty_push}
 use Rattle.grid_state.proofs.rows.empty_rows.Goals as goal
