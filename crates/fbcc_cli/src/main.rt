@@ -3,10 +3,9 @@
 
 use fb_base::{DirShelf, StdSink};
 use fbcc_core::fbcc;
-use std::env;
-use std::io;
 use std::process::ExitCode;
 use std::rt::Env;
+use std::{env, io};
 
 /// The status where there is no memory for the words.
 const OUT_OF_MEMORY: u8 = 16;
@@ -25,13 +24,7 @@ fn main(rt: HostRuntime) -> ExitCode {
     let mut shelf = DirShelf::new(&rt);
     let mut out = StdSink::new(rt.stdout());
     let mut err = StdSink::new(rt.stderr());
-    let outcome = fbcc(
-        rt.alloc(),
-        words.as_slice(),
-        &mut shelf,
-        &mut out,
-        &mut err,
-    );
+    let outcome = fbcc(rt.alloc(), words.as_slice(), &mut shelf, &mut out, &mut err);
     ExitCode::from(outcome.status)
 }
 

@@ -47,5 +47,10 @@ pub fn residual_at(state: &State, p: &Items<i128>, w: &Items<i128>, class: u32) 
 {
     state.sound();
     let w = w.as_slice();
-    less_drops(state.row(class), w, p.as_slice()[class as usize], w[class as usize])
+    less_drops(
+        state.row(class),
+        w,
+        p.as_slice()[class as usize],
+        w[class as usize],
+    )
 }

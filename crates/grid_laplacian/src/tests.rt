@@ -26,10 +26,21 @@ fn wide(alloc: Global, numbers: &[i64]) -> Result<Items<i128>, AllocError>
 }
 
 /// The residual at a class, where there are as many numbers as classes and the class has an equation.
-fn residual(alloc: Global, state: &State, p: &[i64], w: &[i64], class: u32) -> Result<Option<i128>, AllocError> {
+fn residual(
+    alloc: Global,
+    state: &State,
+    p: &[i64],
+    w: &[i64],
+    class: u32,
+) -> Result<Option<i128>, AllocError> {
     state.sound();
     let classes = state.classes() as usize;
-    if p.len() != classes || w.len() != classes || class as usize >= classes || class == state.slack() || !state.live(class) {
+    if p.len() != classes
+        || w.len() != classes
+        || class as usize >= classes
+        || class == state.slack()
+        || !state.live(class)
+    {
         return Ok(None);
     }
     Ok(Some(residual_at(state, &wide(alloc, p)?, &wide(alloc, w)?, class)))
@@ -37,7 +48,11 @@ fn residual(alloc: Global, state: &State, p: &[i64], w: &[i64], class: u32) -> R
 
 /// Three nodes with a line of 10,000,000 kW/rad between each two, seen from the first.
 fn triangle(alloc: Global) -> Result<Option<State>, AllocError> {
-    let lines = [Line(BranchKind::Line, 0, 1, 10_000_000), Line(BranchKind::Line, 0, 2, 10_000_000), Line(BranchKind::Line, 1, 2, 10_000_000)];
+    let lines = [
+        Line(BranchKind::Line, 0, 1, 10_000_000),
+        Line(BranchKind::Line, 0, 2, 10_000_000),
+        Line(BranchKind::Line, 1, 2, 10_000_000),
+    ];
     let Some(grid) = grid_of(alloc, 3, &lines)? else {
         return Ok(None);
     };
@@ -57,8 +72,14 @@ fn residuals_on_a_triangle(rt: HostRuntime) -> Result<(), Fail> {
     let p = [0, 3, 5];
     assert_eq!(rt; residual(rt.alloc(), &state, &p, &[0, 0, 0], 1)?, Some(3));
     assert_eq!(rt; residual(rt.alloc(), &state, &p, &[0, 1, 2], 1)?, Some(3));
-    assert_eq!(rt; residual(rt.alloc(), &state, &p, &[0, 1, 2], 2)?, Some(-29_999_995));
-    assert_eq!(rt; residual(rt.alloc(), &state, &p, &[0, -4, 0], 1)?, Some(80_000_003));
+    assert_eq!(rt;
+        residual(rt.alloc(), &state, &p, &[0, 1, 2], 2)?,
+        Some(-29_999_995)
+    );
+    assert_eq!(rt;
+        residual(rt.alloc(), &state, &p, &[0, -4, 0], 1)?,
+        Some(80_000_003)
+    );
     laws::maximum(&state);
     laws::existence(&state);
     laws::uniqueness(&state);

@@ -15,7 +15,10 @@ pub struct Line(pub BranchKind, pub u32, pub u32, pub i64);
 fn is_branch(branch: &Branch, nodes: u64) -> bool
     ensures { OnTrue result (IsBranch nodes branch.now) }
 {
-    u64::from(branch.from) < nodes && u64::from(branch.to) < nodes && 1 <= branch.b && branch.b <= 100_000_000_000
+    u64::from(branch.from) < nodes
+        && u64::from(branch.to) < nodes
+        && 1 <= branch.b
+        && branch.b <= 100_000_000_000
 }
 
 fn are_branches(branches: &[Branch], nodes: u64) -> bool
@@ -35,7 +38,8 @@ fn are_injections(nodes: &[Node]) -> bool
 {
     let mut left: u64 = 1_000_000_000_000;
     for node in nodes {
-        let size = u128::from(node.load.unsigned_abs()) + u128::from(node.generation.unsigned_abs());
+        let size = u128::from(node.load.unsigned_abs())
+            + u128::from(node.generation.unsigned_abs());
         if size > u128::from(left) {
             return false;
         }
@@ -46,7 +50,11 @@ fn are_injections(nodes: &[Node]) -> bool
 
 /// A grid of these nodes and branches, if they are in range.
 fn checked(nodes: Items<Node>, branches: Items<Branch>) -> Option<Grid> {
-    if nodes.len() <= 4096 && branches.len() <= 16384 && are_injections(nodes.as_slice()) && are_branches(branches.as_slice(), nodes.len()) {
+    if nodes.len() <= 4096
+        && branches.len() <= 16384
+        && are_injections(nodes.as_slice())
+        && are_branches(branches.as_slice(), nodes.len())
+    {
         Some(Grid { nodes, branches })
     } else {
         None

@@ -1,0 +1,4 @@
+pub mod Adding
+pub mod Gathered
+pub mod Sizes
+pub mod TableRows

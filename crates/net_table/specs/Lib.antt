@@ -1,0 +1,2 @@
+pub mod NetTexts
+pub mod Totals
