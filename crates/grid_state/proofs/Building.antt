@@ -1,5 +1,5 @@
 -- What the parts of a state give, once each is made.
-use Rattle.std.proofs.Common.{◌≡◌, ℕ, ◌<◌, ◌≤◌, Bool, true, false, List, [], ◌∷◌, length, get_or, map, All, ℤ, arith, refl, sym, ap, ap₂, subst, ◌∙◌, ◌&&◌, not}
+use Rattle.std.proofs.Common.{◌≡◌, ℕ, ◌≤◌, Bool, true, false, List, [], ◌∷◌, length, get_or, map, All, ℤ, arith, refl, sym, ap, ap₂, subst, ◌∙◌, ◌&&◌, not}
 use Rattle.std.specs.List.{enumerate_from}
 use Rattle.std.proofs.lemmas.List.{length-map, get_or_read}
 use Rattle.std.proofs.lemmas.List.Elements.{All-from_get_or}
@@ -8,11 +8,11 @@ use Rattle.fb_types.specs.declared.grid.Branch.{Branch}
 use Rattle.grid_state.specs.declared.types.Edge.{Edge}
 use Rattle.grid_state.specs.declared.links.Link.{Link}
 use Rattle.grid_state.specs.GridState.{IsKept, AreSums}
-use Rattle.grid_state.specs.Links.{is_out, is_wanted, couplers_of, between, AreClasses, AreReached}
+use Rattle.grid_state.specs.Links.{is_out, couplers_of, between, AreClasses, AreReached}
 use Rattle.grid_state.specs.Rows.{AreRows, carries_in}
 use Rattle.grid_state.specs.States.{class_lines_of, IsStateOf}
 use Rattle.grid_state.specs.Parts.{AreParts}
-use Rattle.grid_state.specs.Unions.{IsLineBelow, AreLinksBelow, links_marked, carries_marked}
+use Rattle.grid_state.specs.Unions.{IsLineBelow, AreLinksBelow, links_marked, carries_marked, is_wanted}
 use Rattle.grid_state.proofs.LinkLists.{links_of_marks}
 use Rattle.grid_state.proofs.Ranges.{few_links, links_below, lines_below, class_lines_below, links_from_lines}
 use Rattle.grid_state.proofs.Weights.{few_edges_at}
@@ -34,13 +34,6 @@ module _ (grid : Grid) (slack : ℕ) (outage : List ℕ) (out : List Bool) (coun
 
   pub parts_lines_below : AreLinksBelow count lines
   parts_lines_below = links_from_lines count lines ranged
-
-  pub parts_slack_below : (slack_class : ℕ) → slack_class ≡ get_or class_of slack slack_class → slack_class < count
-  parts_slack_below slack_class read =
-      let classes = p.classes in
-      let h = p.slack_below in
-      let size = classes.each_place in
-      subst (λ (k : ℕ). k < count) (sym read) (classes.below slack slack_class (omega arith))
 
   few_lines : length lines ≤ 16384
   few_lines =

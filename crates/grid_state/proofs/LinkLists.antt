@@ -6,8 +6,8 @@ use Rattle.std.proofs.lemmas.List.{map-append, map_more, append-nil, take_all}
 use Rattle.std.proofs.lemmas.List.FromFn.{length-enumerate_from, get_or-enumerate_from}
 use Rattle.std.proofs.lemmas.List.Elements.{filter_more, filter_agree}
 use Rattle.fb_types.specs.declared.grid.Branch.{Branch}
-use Rattle.grid_state.specs.Links.{is_wanted, is_chosen, link_of, links_of, is_out}
-use Rattle.grid_state.specs.Unions.{links_before, carries_before, AreMarks}
+use Rattle.grid_state.specs.Links.{is_chosen, link_of, links_of, is_out}
+use Rattle.grid_state.specs.Unions.{links_before, carries_before, AreMarks, is_wanted}
 use Rattle.grid_state.specs.Rows.{carries_in}
 
 module _ (couplers : Bool) (out : List Bool) (branches : List Branch) (k : ℕ) (b : Branch) (h : k < length branches) (read : b ≡ get_or branches k b) where

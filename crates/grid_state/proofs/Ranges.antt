@@ -12,8 +12,8 @@ use Rattle.fb_types.specs.declared.grid.BranchKind.{BranchKind}
 use Rattle.fb_types.specs.declared.grid.BranchKind.TheVariants.{Coupler}
 use Rattle.fb_types.specs.GridRanges.{IsBranch, IsRunning, AreBranches}
 use Rattle.grid_state.specs.declared.links.Link.{Link}
-use Rattle.grid_state.specs.Links.{is_coupler_kind, is_wanted, is_chosen, link_of, links_of, between}
-use Rattle.grid_state.specs.Unions.{AreLinksBelow, IsLineBelow}
+use Rattle.grid_state.specs.Links.{is_coupler_kind, is_chosen, link_of, links_of, between}
+use Rattle.grid_state.specs.Unions.{AreLinksBelow, IsLineBelow, is_wanted}
 
 -- what holds of each branch holds with its number
 numbered : (P : Branch → Type 0) (k : ℕ) (branches : List Branch) → All P branches → All (λ (p : ℕ × Branch). P p.1) (enumerate_from k branches)

@@ -9,10 +9,10 @@ use Rattle.fb_types.specs.declared.grid.Grid.{Grid}
 use Rattle.grid_state.specs.declared.types.Edge.{Edge}
 use Rattle.grid_state.specs.declared.links.Link.{Link}
 use Rattle.grid_state.specs.GridState.{GridState, classes_of, weight_to, IsEdge, IsSound}
-use Rattle.grid_state.specs.Links.{is_out, is_wanted, lines_of, between, IsJoined, AreReached}
+use Rattle.grid_state.specs.Links.{is_out, lines_of, between, IsJoined, AreReached}
 use Rattle.grid_state.specs.Rows.{is_crossing, edges_at, AreRows, carries_in}
 use Rattle.grid_state.specs.States.{class_lines_of, IsStateOf}
-use Rattle.grid_state.specs.Unions.{Respects, IsLineBelow}
+use Rattle.grid_state.specs.Unions.{Respects, IsLineBelow, is_wanted}
 use Rattle.grid_state.proofs.Chains.{same_side, joined_trans, joined_sym}
 use Rattle.grid_state.proofs.Ranges.{few_links, lines_below, class_lines_below}
 use Rattle.grid_state.proofs.Weights.{edges_in_range, few_edges_at, weight-turned, weight-own, weight-some, dead_row}

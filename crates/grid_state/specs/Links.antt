@@ -24,16 +24,11 @@ is_coupler branch = is_coupler_kind branch.kind
 abbrev pub is_line : Branch → Bool
 is_line branch = not (is_coupler branch)
 
--- couplers, or else lines and transformers
-abbrev pub is_wanted : Bool → Branch → Bool
-is_wanted true branch = is_coupler branch
-is_wanted false branch = is_line branch
-
 -- whether a branch, given with its number, is of the kind, in operation and outside the outage
 abbrev pub is_chosen : (Branch → Bool) → (ℕ → Bool) → ℕ × Branch → Bool
 is_chosen kind out p = kind p.1 && (p.1.in_operation && not (out p.0))
 
--- a branch as a link of its two nodes. Where it is a line or a transformer in operation, its susceptance is positive
+-- a branch as a link of its two nodes. The susceptance of a line or a transformer in operation is positive
 abbrev pub link_of : Branch → Link
 link_of branch = record { one = branch.from; other = branch.to; b = unsigned_abs branch.b }
 
@@ -43,11 +38,11 @@ links_of kind out branches = map (λ p. link_of p.1) (filter (is_chosen kind out
 
 -- the closed couplers outside the outage
 abbrev pub couplers_of : List ℕ → List Branch → List Link
-couplers_of outage branches = links_of (is_wanted true) (is_out outage) branches
+couplers_of outage branches = links_of is_coupler (is_out outage) branches
 
 -- the lines and transformers in operation outside the outage
 abbrev pub lines_of : List ℕ → List Branch → List Link
-lines_of outage branches = links_of (is_wanted false) (is_out outage) branches
+lines_of outage branches = links_of is_line (is_out outage) branches
 
 -- a link of nodes as a link of their classes
 abbrev pub between : List ℕ → Link → Link
@@ -77,7 +72,7 @@ pub record AreClasses (n : ℕ) (links : List Link) (classes : ℕ) (class_of : 
   pub one_class : (i j : ℕ) → i < n → j < n → (slice_index class_of i ≡ slice_index class_of j) ↔ IsJoined links i j
   pub in_order : (i c : ℕ) → i < n → c < slice_index class_of i → (j : ℕ) × (j < i) × (slice_index class_of j ≡ c)
 
--- a test of each place, which those pass that a chain of links joins to one place
+-- marks of the places that a chain of links joins to one place
 pub record AreReached (n : ℕ) (links : List Link) (from : ℕ) (marks : List Bool) : Type 0 where
   pub size : length marks ≡ n
   pub each : (i : ℕ) → i < n → IsTrue (slice_index_or marks i false) ↔ IsJoined links from i

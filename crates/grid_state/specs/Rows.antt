@@ -4,7 +4,7 @@ use Rattle.std.specs.List.{filter_map}
 use Rattle.fb_types.specs.declared.grid.Branch.{Branch}
 use Rattle.grid_state.specs.declared.types.Edge.{Edge}
 use Rattle.grid_state.specs.declared.links.Link.{Link}
-use Rattle.grid_state.specs.Links.{is_wanted, is_chosen}
+use Rattle.grid_state.specs.Links.{is_line, is_chosen}
 
 -- whether a link joins a live class to another
 abbrev pub is_crossing : List Bool → Link → Bool
@@ -30,4 +30,4 @@ pub record AreRows (live : List Bool) (links : List Link) (rows : List (List Edg
 -- ends are of live classes
 abbrev pub carries_in : (ℕ → Bool) → List ℕ → List Bool → ℕ × Branch → Bool
 carries_in out class_of live p =
-    is_chosen (is_wanted false) out p && (slice_index_or live (slice_index class_of p.1.from) false && slice_index_or live (slice_index class_of p.1.to) false)
+    is_chosen is_line out p && (slice_index_or live (slice_index class_of p.1.from) false && slice_index_or live (slice_index class_of p.1.to) false)

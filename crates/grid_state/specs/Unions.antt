@@ -1,10 +1,10 @@
 -- Words of private contracts: trees of places, in which each place points up to an earlier one of its class, or to itself.
 -- Nobody need believe them: `AreClasses` says what comes of them.
-use Rattle.std.specs.Prelude.{◌≡◌, ℕ, ◌<◌, ◌≤◌, Bool, false, List, length, map, filter, take, slice_index, slice_index_or, All}
+use Rattle.std.specs.Prelude.{◌≡◌, ℕ, ◌<◌, ◌≤◌, Bool, true, false, List, length, map, filter, take, slice_index, slice_index_or, All}
 use Rattle.std.specs.List.{enumerate_from}
 use Rattle.fb_types.specs.declared.grid.Branch.{Branch}
 use Rattle.grid_state.specs.declared.links.Link.{Link}
-use Rattle.grid_state.specs.Links.{is_wanted, is_chosen, link_of, links_of}
+use Rattle.grid_state.specs.Links.{is_coupler, is_line, is_chosen, link_of, links_of}
 use Rattle.grid_state.specs.Rows.{carries_in}
 
 -- a set has both ends of each link, or neither
@@ -77,6 +77,11 @@ pub record IsLineBelow (n : ℕ) (link : Link) : Type 0 where
   pub other : link.other < n
   pub some : 0 < link.b
   pub small : link.b ≤ 100000000000
+
+-- couplers, or else lines and transformers
+abbrev pub is_wanted : Bool → Branch → Bool
+is_wanted true = is_coupler
+is_wanted false = is_line
 
 -- the links of the first k branches
 abbrev pub links_before : Bool → List Bool → List Branch → ℕ → List Link

@@ -19,7 +19,8 @@ use std::alloc::{AllocError, Global};
 /// The classes of nodes that the closed couplers make, where the branches of the outage are marked.
 fn node_classes(alloc: Global, grid: &Grid, out: &[bool]) -> Result<Numbering, AllocError>
     requires { length out.now ≡ length grid.now.branches }
-    ensures { IfOk result (λ c. AreClasses (length grid.now.nodes) (links_marked true out.now grid.now.branches) c.count c.class_of.items) }
+    ensures { let couplers = links_marked true out.now grid.now.branches in
+        IfOk result (λ c. AreClasses (length grid.now.nodes) couplers c.count c.class_of.items) }
 {
     let couplers = links::links(alloc, grid.branches.as_slice(), out, true)?;
     number_classes(alloc, grid.nodes.len() as u32, &couplers)
@@ -34,7 +35,8 @@ fn class_lines(
 ) -> Result<Vec<Link>, AllocError>
     requires out { length out.now ≡ length grid.now.branches }
     requires each_node { length class_of.now ≡ length grid.now.nodes }
-    ensures { IfOk result (λ lines. lines.items ≡ map (between class_of.now) (links_marked false out.now grid.now.branches)) }
+    ensures { let lines = links_marked false out.now grid.now.branches in
+        IfOk result (λ made. made.items ≡ map (between class_of.now) lines) }
 {
     let lines = links::links(alloc, grid.branches.as_slice(), out, false)?;
     links::class_links(alloc, &lines, class_of)
@@ -110,6 +112,8 @@ pub fn state(
     requires outage { All (λ k. k < length grid.now.branches) outage.now }
     requires keys { AreKeysOf (length grid.now.nodes) columns.now }
     ensures state { IfOk result (λ s. IsStateOf grid.now slack outage.now s) }
+
+    // The state is given exactly where it is not split.
     ensures none_stranded { IfOk result (λ s. first_stranded_node s columns.now grid.now.nodes ≡ None) }
     ensures not_split { IfOk result (λ _. (node : ℕ) → ¬ IsSplit grid.now slack outage.now columns.now node) }
     ensures cause { IfErr result (IsCaused grid.now slack outage.now columns.now) }

@@ -1,8 +1,8 @@
 //! Branches as links between nodes, and between classes.
 
 ghost use Rattle.std.specs.Prelude.{◌≡◌, ◌<◌, ◌&&◌, not, length, map, All, IfOk};
-ghost use Rattle.grid_state.specs.Links.{is_out, is_wanted, link_of, between};
-ghost use Rattle.grid_state.specs.Unions.{AreMarks, AreLinksBelow, links_marked};
+ghost use Rattle.grid_state.specs.Links.{is_out, link_of, between};
+ghost use Rattle.grid_state.specs.Unions.{AreMarks, AreLinksBelow, links_marked, is_wanted};
 
 use fb_types::{Branch, BranchKind};
 use std::alloc::{AllocError, Global};
