@@ -1,11 +1,11 @@
 -- No angle is above the number of classes times what comes in, over the least weight.
-use Rattle.std.proofs.Common.{◌≡◌, ℕ, zero, suc, ◌+◌, ◌-◌, ◌*◌, ◌<◌, ◌≤◌, ◌⊎◌, inl, inr, Bool, true, false, cond, ◌&&◌, ℤ, pos, negsuc, ◌+ℤ◌, ◌-ℤ◌, ◌*ℤ◌, neg_ℤ, nat_abs, ◌≤ℤ◌, ◌<ℤ◌, arith, mul-le-mul_left, mul-le-mul_right, refl, sym, ap, ap₂, subst, ◌∙◌}
+use Rattle.std.proofs.Common.{◌≡◌, ℕ, zero, suc, ◌+◌, ◌-◌, ◌*◌, ◌<◌, ◌≤◌, inl, inr, Bool, true, false, cond, ◌&&◌, ℤ, pos, negsuc, ◌-ℤ◌, ◌*ℤ◌, neg_ℤ, nat_abs, ◌≤ℤ◌, ◌<ℤ◌, arith, mul-le-mul_left, mul-le-mul_right, refl, sym, ap}
 use Rattle.std.proofs.lemmas.Int.{ints, by_lt_z}
-use Rattle.std.proofs.lemmas.Bool.{cases_Bool, both_ways, cond-true, cond-false, and_from, and_parts}
+use Rattle.std.proofs.lemmas.Bool.{cases_Bool, cond-true, cond-false, and_from, and_parts}
 use lib.Signed.{le_z, lt_z}
 use borrow.Author.Differences.{up, down}
-use Rattle.whole_laws.specs.Sums.{sum_below, total_below}
-use Rattle.grid_laplacian.specs.Tables.{laplacian, Leaves, IsGrounded, SolvesTable}
+use Rattle.whole_laws.specs.Sums.{total_below}
+use Rattle.grid_laplacian.specs.Tables.{IsGrounded, SolvesTable}
 use Rattle.whole_laws.specs.TotalLaws.{total_below-le, total_below-lt, total_below-ones, term-le-total_below}
 use Rattle.whole_laws.specs.Ring.{*ℤ-sub}
 use Rattle.grid_laplacian.proofs.Cut.{supply, cut, SolvesTable-neg, same_supply}

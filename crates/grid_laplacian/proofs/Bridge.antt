@@ -1,14 +1,14 @@
 -- A state is a grounded table of weights.
-use Rattle.std.proofs.Common.{◌≡◌, ℕ, zero, suc, ◌+◌, ◌*◌, ◌<◌, ◌≤◌, ◌⊎◌, inl, inr, Bool, true, false, cond, eqb, not, ◌&&◌, List, [], ◌∷◌, length, get_or, All, ℤ, pos, ◌+ℤ◌, ◌-ℤ◌, ◌*ℤ◌, arith, refl, sym, ap, ap₂, subst, ◌∙◌}
+use Rattle.std.proofs.Common.{◌≡◌, ℕ, zero, suc, ◌+◌, ◌<◌, ◌≤◌, ◌⊎◌, inl, inr, Bool, true, false, cond, eqb, not, List, [], ◌∷◌, All, ℤ, pos, ◌+ℤ◌, ◌-ℤ◌, ◌*ℤ◌, arith, refl, sym, ap, ap₂, subst, ◌∙◌}
 use Rattle.std.proofs.lemmas.Int.{ints}
-use Rattle.std.proofs.lemmas.Bool.{cases_Bool, both_ways, cases_eq, cond-true, cond-false, and_parts, eq-eqb, eqb-true, ne_eqb, not-true, not_from_false, not_from_true}
+use Rattle.std.proofs.lemmas.Bool.{cases_Bool, both_ways, cases_eq, cond-true, cond-false, and_parts, eq-eqb, ne_eqb, not-true, not_from_false}
 use Rattle.std.proofs.lemmas.List.Elements.{All-head, All-tail, All-get_or}
 use Rattle.grid_state.specs.declared.types.Edge.{Edge}
 use Rattle.grid_state.specs.GridState.{GridState, row_of, weight_to, weight, is_live, is_free, classes_of, IsEdge, IsClosed, IsSound}
-use Rattle.whole_laws.specs.Sums.{sum_below, total_below, at}
-use Rattle.grid_laplacian.specs.Tables.{laplacian, Leaves, IsGrounded, SolvesTable}
+use Rattle.whole_laws.specs.Sums.{sum_below, at}
+use Rattle.grid_laplacian.specs.Tables.{laplacian, Leaves, IsGrounded}
 use Rattle.grid_laplacian.specs.Laws.{drop_over, laplacian_at}
-use Rattle.whole_laws.specs.SumLaws.{sum_below-same, sum_below-zero_each, sum_below-add_each}
+use Rattle.whole_laws.specs.SumLaws.{sum_below-zero_each, sum_below-add_each}
 
 -- ---- a search for a weight out of a set
 abbrev Out : ℕ → (ℕ → ℕ → ℕ) → (ℕ → Bool) → ℕ → Type 0

@@ -1,8 +1,8 @@
 -- Existence over naturals: a table of weights w with a weight g to the ground, each of whose sets of classes leaks.
-use Rattle.std.proofs.Common.{◌≡◌, ℕ, zero, suc, ◌+◌, ◌*◌, ◌<◌, ◌≤◌, ◌⊎◌, inl, inr, Bool, true, false, cond, ltb, eqb, arith, mul-pos, refl, sym, ap, ap₂, subst, subst₂, ◌∙◌}
-use Rattle.std.proofs.lemmas.Bool.{ltb-true, ltb-false, cases_eq, cases_lt, cases_Bool, both_ways, eqb-true, eqb-false, eq-eqb, lt-ltb, le-ltb, cond-true, cond-false}
+use Rattle.std.proofs.Common.{◌≡◌, ℕ, zero, suc, ◌+◌, ◌*◌, ◌<◌, ◌≤◌, ◌⊎◌, inl, inr, Bool, true, false, cond, ltb, eqb, arith, mul-pos, refl, sym, ap, subst, subst₂, ◌∙◌}
+use Rattle.std.proofs.lemmas.Bool.{ltb-true, ltb-false, cases_eq, cases_Bool, eqb-true, eqb-false, eq-eqb, lt-ltb, le-ltb, cond-true, cond-false}
 use Rattle.whole_laws.specs.Sums.{total_below}
-use Rattle.whole_laws.specs.TotalLaws.{total_below-same, total_below-combine, term-le-total_below}
+use Rattle.whole_laws.specs.TotalLaws.{total_below-combine, term-le-total_below}
 
 -- a class of the set has a weight to the ground, or to a class outside
 pub record Leaks (n : ℕ) (w : ℕ → ℕ → ℕ) (g : ℕ → ℕ) (set : ℕ → Bool) : Type 0 where

@@ -1,12 +1,12 @@
 -- For each right side there is a solution, and one denominator serves all right sides.
-use Rattle.std.proofs.Common.{◌≡◌, ℕ, zero, suc, ◌+◌, ◌*◌, ◌<◌, ◌≤◌, ◌⊎◌, inl, inr, Bool, true, false, cond, ◌&&◌, ℤ, pos, ◌+ℤ◌, ◌-ℤ◌, ◌*ℤ◌, arith, refl, sym, ap, ap₂, subst, subst₂, ◌∙◌}
+use Rattle.std.proofs.Common.{◌≡◌, ℕ, zero, suc, ◌+◌, ◌*◌, ◌<◌, inl, inr, Bool, true, false, cond, ◌&&◌, ℤ, pos, ◌+ℤ◌, ◌-ℤ◌, ◌*ℤ◌, arith, refl, ap, ◌∙◌}
 use Rattle.std.proofs.lemmas.Int.{ints}
 use Rattle.std.proofs.lemmas.Bool.{cases_Bool, both_ways, cond-true, cond-false, and_parts, and_from, and_cases}
 use borrow.Author.Differences.{up, down}
 use Rattle.whole_laws.specs.Sums.{total_below, sum_below}
-use Rattle.grid_laplacian.specs.Tables.{laplacian, Leaves, IsGrounded, SolvesTable}
+use Rattle.grid_laplacian.specs.Tables.{IsGrounded, SolvesTable}
 use Rattle.whole_laws.specs.TotalLaws.{total_below-same, total_below-combine, term-le-total_below}
-use Rattle.grid_laplacian.proofs.Drained.{Leaks, IsDrained, IsSolution, existence}
+use Rattle.grid_laplacian.proofs.Drained.{IsDrained, IsSolution, existence}
 
 -- ---- the classes that are not free as the ground
 abbrev between : (ℕ → ℕ → ℕ) → (ℕ → Bool) → ℕ → ℕ → ℕ

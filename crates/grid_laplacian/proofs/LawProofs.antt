@@ -1,23 +1,23 @@
 -- The laws of `specs/Laws.antt` hold of every state.
-use Rattle.std.proofs.Common.{◌≡◌, ℕ, zero, suc, ◌+◌, ◌*◌, ◌<◌, ◌≤◌, ◌⊎◌, inl, inr, Bool, true, false, cond, eqb, not, ◌&&◌, List, [], ◌∷◌, length, get_or, map, All, count_by, sum_by, ℤ, pos, negsuc, ◌+ℤ◌, ◌-ℤ◌, ◌*ℤ◌, nat_abs, ◌≤ℤ◌, arith, mul-le-mul_right, mul-le-mul_left, refl, sym, ap, ap₂, subst, ◌∙◌}
+use Rattle.std.proofs.Common.{◌≡◌, ℕ, zero, suc, ◌+◌, ◌*◌, ◌<◌, ◌≤◌, ◌⊎◌, inl, inr, Bool, true, false, cond, eqb, not, ◌&&◌, List, [], ◌∷◌, length, get_or, map, All, sum_by, ℤ, pos, negsuc, ◌-ℤ◌, ◌*ℤ◌, nat_abs, ◌≤ℤ◌, arith, mul-le-mul_right, refl, sym, ap, ap₂, subst, ◌∙◌}
 use Rattle.std.specs.List.{range_with_len}
 use Rattle.std.proofs.lemmas.Int.{ints}
 use Rattle.std.proofs.lemmas.Bool.{cases_Bool, both_ways, cases_eq, cond-true, cond-false, and_parts, and_from, eqb-true, eq-eqb, not_from_false}
-use Rattle.std.proofs.lemmas.List.Elements.{All-head, All-tail, All-get_or, All-from_get_or}
+use Rattle.std.proofs.lemmas.List.Elements.{All-head, All-tail, All-get_or}
 use Rattle.std.proofs.lemmas.List.FromFn.{get_or-map-range_with_len, length-map-range_with_len}
 use Rattle.std.proofs.lemmas.List.Sums.{sum_by-cons}
 use Rattle.grid_state.specs.declared.types.Edge.{Edge}
 use Rattle.grid_state.specs.GridState.{GridState, row_of, weight_to, weight, is_live, is_free, classes_of, live_count, IsEdge, IsSound}
-use Rattle.whole_laws.specs.Sums.{sum_below, total_below, at}
-use Rattle.grid_laplacian.specs.Tables.{laplacian, IsGrounded, SolvesTable}
+use Rattle.whole_laws.specs.Sums.{total_below, at}
+use Rattle.grid_laplacian.specs.Tables.{laplacian, SolvesTable}
 use Rattle.grid_laplacian.specs.Sizes.{supply_of}
-use Rattle.grid_laplacian.specs.Laws.{drop_over, laplacian_at, Solves, Maximum, Existence, Uniqueness, Cut, Angle}
+use Rattle.grid_laplacian.specs.Laws.{Solves, Maximum, Existence, Uniqueness, Cut, Angle}
 use Rattle.whole_laws.specs.SumLaws.{sum_below-same}
 use Rattle.whole_laws.specs.TotalLaws.{total_below-le}
 use Rattle.grid_laplacian.proofs.Maximum.{maximum}
 use Rattle.grid_laplacian.proofs.Existence.{solution}
 use Rattle.grid_laplacian.proofs.Uniqueness.{uniqueness}
-use Rattle.grid_laplacian.proofs.Cut.{cut, supply}
+use Rattle.grid_laplacian.proofs.Cut.{cut}
 use Rattle.grid_laplacian.proofs.Angle.{angle, free_count}
 use Rattle.grid_laplacian.proofs.Bridge.{grounded, laplacian_is}
 

@@ -1,11 +1,10 @@
 -- A function whose Laplacian is at least 0 at the free classes is at least its least value at the others.
-use Rattle.std.proofs.Common.{◌≡◌, ℕ, zero, suc, ◌+◌, ◌*◌, ◌<◌, ◌≤◌, ◌⊎◌, inl, inr, Bool, true, false, ℤ, pos, ◌+ℤ◌, ◌-ℤ◌, ◌*ℤ◌, neg_ℤ, ◌≤ℤ◌, ◌<ℤ◌, arith, mul-le-mul_left, refl, sym, ap, ap₂, subst, ◌∙◌}
+use Rattle.std.proofs.Common.{◌≡◌, ℕ, zero, suc, ◌<◌, ◌≤◌, inl, inr, Bool, true, false, ℤ, pos, ◌-ℤ◌, ◌*ℤ◌, ◌≤ℤ◌, ◌<ℤ◌, arith, mul-le-mul_left, sym, subst}
 use Rattle.std.proofs.lemmas.Int.{ints, by_lt_z}
-use Rattle.std.proofs.lemmas.Bool.{cases_eq, cases_Bool, both_ways}
+use Rattle.std.proofs.lemmas.Bool.{cases_eq, cases_Bool}
 use lib.Signed.{le_z}
 use borrow.Author.Differences.{up, down}
-use Rattle.whole_laws.specs.Sums.{sum_below}
-use Rattle.grid_laplacian.specs.Tables.{laplacian, Leaves, IsGrounded}
+use Rattle.grid_laplacian.specs.Tables.{laplacian, IsGrounded}
 use Rattle.whole_laws.specs.SumLaws.{sum_below-le-term}
 
 -- a least value below n

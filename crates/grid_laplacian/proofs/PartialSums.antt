@@ -1,5 +1,5 @@
 -- The partial sums of a residual, and their size.
-use Rattle.std.proofs.Common.{◌≡◌, ℕ, zero, suc, ◌+◌, ◌*◌, ◌<◌, ◌≤◌, List, [], ◌∷◌, length, get_or, take, All, ℤ, pos, ◌+ℤ◌, ◌-ℤ◌, ◌*ℤ◌, nat_abs, arith, add-one, mul-le-mul_left, mul-le-mul_right, le_of_mul-le-mul_right, refl, ap, sym, subst, ◌∙◌, ◌^◌, FitsSigned, true, inl, inr}
+use Rattle.std.proofs.Common.{◌≡◌, ℕ, zero, suc, ◌+◌, ◌*◌, ◌<◌, ◌≤◌, List, [], ◌∷◌, length, get_or, take, All, ℤ, pos, ◌+ℤ◌, ◌-ℤ◌, ◌*ℤ◌, nat_abs, arith, add-one, mul-le-mul_left, mul-le-mul_right, le_of_mul-le-mul_right, ap, sym, subst, ◌^◌, FitsSigned, true, inl, inr}
 use Rattle.std.proofs.lemmas.Int.{ints, unsigned_abs-mul, fits_signed_from_abs}
 use mir.Syntax.{w128}
 use Rattle.std.proofs.lemmas.List.Elements.{All-head, All-tail, All-take, All-weaker, All-get_or}

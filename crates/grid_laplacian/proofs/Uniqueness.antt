@@ -1,10 +1,8 @@
 -- Two solutions for one right side are one fraction.
-use Rattle.std.proofs.Common.{◌≡◌, ℕ, zero, suc, ◌+◌, ◌*◌, ◌<◌, ◌≤◌, ◌⊎◌, inl, inr, Bool, true, false, ℤ, pos, ◌+ℤ◌, ◌-ℤ◌, ◌*ℤ◌, neg_ℤ, ◌≤ℤ◌, ◌<ℤ◌, arith, refl, sym, ap, ap₂, subst, ◌∙◌}
+use Rattle.std.proofs.Common.{◌≡◌, ℕ, zero, suc, ◌<◌, Bool, ℤ, pos, ◌+ℤ◌, ◌-ℤ◌, ◌*ℤ◌, neg_ℤ, ◌≤ℤ◌, arith, refl, sym, subst, ◌∙◌}
 use Rattle.std.proofs.lemmas.Int.{ints}
-use Rattle.std.proofs.lemmas.Bool.{cases_Bool}
-use borrow.Author.Differences.{up, down}
 use Rattle.whole_laws.specs.Sums.{sum_below}
-use Rattle.grid_laplacian.specs.Tables.{laplacian, Leaves, IsGrounded, SolvesTable}
+use Rattle.grid_laplacian.specs.Tables.{laplacian, IsGrounded, SolvesTable}
 use Rattle.whole_laws.specs.Ring.{*ℤ-add, *ℤ-sub, *ℤ_left_comm, neg-*ℤ, *ℤ_comm}
 use Rattle.grid_laplacian.proofs.Maximum.{maximum}
 

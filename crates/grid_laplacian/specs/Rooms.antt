@@ -1,6 +1,6 @@
 -- Words of private contracts: what keeps the partial sums of a residual within 128 bits. The contract of `residual_at` says
 -- what its callers owe.
-use Rattle.std.specs.Prelude.{ℕ, ◌*◌, ◌^◌, ◌≤◌, List, length, All, ℤ, unsigned_abs}
+use Rattle.std.specs.Prelude.{◌*◌, ◌^◌, ◌≤◌, List, length, All, ℤ, unsigned_abs}
 use Rattle.grid_state.specs.declared.types.Edge.{Edge}
 use Rattle.grid_state.specs.GridState.{IsEdge, susceptance_over}
 

@@ -1,4 +1,4 @@
-use Rattle.std.proofs.Common.{◌≡◌, ◌<◌, ◌^◌, ◌-ℤ◌, ◌*ℤ◌, pos, FitsSigned, arith, refl}
+use Rattle.std.proofs.Common.{◌-ℤ◌, ◌*ℤ◌, FitsSigned, arith, refl}
 use Rattle.std.proofs.lemmas.Int.{ints, to_z-of_z}
 use mir.Syntax.{w128}
 use Rattle.grid_laplacian.proofs.PartialSums.{difference_fits, drop_fits}

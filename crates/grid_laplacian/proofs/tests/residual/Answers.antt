@@ -1,4 +1,4 @@
-use Rattle.std.proofs.Common.{pos, slice_index_or}
+use Rattle.std.proofs.Common.{slice_index_or}
 use Rattle.grid_laplacian.specs.Sizes.{greatest_susceptance_of}
 use Rattle.grid_laplacian.proofs.PartialSums.{greatest_small, narrow_times}
 use Rattle.grid_laplacian.proofs.tests.residual.Goals as goal
