@@ -1,0 +1,11 @@
+pub mod TableLaws
+pub mod CheckLaws
+pub mod NodeLaws
+pub mod BranchLaws
+pub mod RegulationLaws
+pub mod FirstFaultLaws
+pub mod FactLaws
+pub mod SurveyLaws
+pub mod PassLaws
+pub mod RangeLaws
+pub mod GridLaws
