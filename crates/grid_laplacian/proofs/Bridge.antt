@@ -92,11 +92,11 @@ row-sum n (e ∷ es) f x all =
     let here = All-head (λ e. IsEdge n e) e es all in
     let first = sum_below-single n (λ j. pos (cond (eqb e.to j) e.b 0) *ℤ (x -ℤ f j)) e.to here.leads
     (λ j b other. ap (λ k. pos k *ℤ (x -ℤ f j)) (cond-false {A = ℕ} (eqb e.to j) e.b 0 (ne_eqb e.to j (λ same. other (sym same)))) ∙ zero_times (x -ℤ f j)) in
-    let here_at : pos (cond (eqb e.to e.to) e.b 0) *ℤ (x -ℤ f e.to) ≡ pos e.b *ℤ (x -ℤ f e.to) =
+    let at_its_end : pos (cond (eqb e.to e.to) e.b 0) *ℤ (x -ℤ f e.to) ≡ pos e.b *ℤ (x -ℤ f e.to) =
     ap (λ k. pos k *ℤ (x -ℤ f e.to)) (cond-true {A = ℕ} (eqb e.to e.to) e.b 0 (eq-eqb e.to e.to refl)) in
     let both = sum_below-add_each n (λ j. pos (cond (eqb e.to j) e.b 0) *ℤ (x -ℤ f j)) (λ j. pos (weight_to es j) *ℤ (x -ℤ f j)) (λ j. pos (cond (eqb e.to j) e.b 0 + weight_to es j) *ℤ (x -ℤ f j))
     (λ j b. two_times (cond (eqb e.to j) e.b 0) (weight_to es j) (x -ℤ f j)) in
-    both ∙ ap₂ ◌+ℤ◌ (first ∙ here_at) rest
+    both ∙ ap₂ ◌+ℤ◌ (first ∙ at_its_end) rest
   where
     zero_times : (z : ℤ) → pos 0 *ℤ z ≡ pos 0
     zero_times z = omega (arith, ints)

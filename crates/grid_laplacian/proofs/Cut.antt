@@ -116,7 +116,7 @@ cut_down n w free symmetric p t d s i j hi hj falls up_there =
     let most = taken n w free p t d s i up_there in
     let row = term-le-sum_below n (λ a. sum_below n (across w t (above t i) a)) (λ a h. sum_below-high n (across w t (above t i) a) (λ b h'. across_high n w t i a b)) i hi in
     let cell = term-le-sum_below n (across w t (above t i) i) (λ b h'. across_high n w t i i b) j hj in
-    let here_at : across w t (above t i) i j ≡ flow w t i j =
+    let crosses : across w t (above t i) i j ≡ flow w t i j =
     cond-true (above t i i) (cond (above t i j) (pos 0) (flow w t i j)) (pos 0) (sym (is_above (t i) (t i) (omega (arith, ints))))
     ∙ cond-false (above t i j) (pos 0) (flow w t i j) (sym (not_above (t i) (t j) falls)) in
     omega (arith, ints)

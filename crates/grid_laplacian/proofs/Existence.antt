@@ -29,30 +29,30 @@ drained n w free grounded set i h s =
           let out = grounded (λ j. set j && free j) (λ j b e. (and_parts (set j) (free j) e).1) i h (and_from (set i) (free i) s is) in
           let a = out.inner in
           let b = out.outer in
-          let here_at = and_parts (set a) (free a) out.inside in
+          let both = and_parts (set a) (free a) out.inside in
           let joined = out.joined in
           elim (cases_Bool (free b)) [
             | inl v ↦
                 record {
                   from = a;
                   below = out.inner_below;
-                  inside = here_at.0;
+                  inside = both.0;
                   way = inr (
                     b,
                     out.outer_below,
                     elim (and_cases (set b) (free b) out.outside) [ inl e ↦ e | inr e ↦ absurd (both_ways (free b) e v) ],
-                    (let e = cond-true (free a) (cond (free b) (w a b) 0) 0 here_at.1 ∙ cond-true (free b) (w a b) 0 v in omega arith),
+                    (let e = cond-true (free a) (cond (free b) (w a b) 0) 0 both.1 ∙ cond-true (free b) (w a b) 0 v in omega arith),
                   );
                 }
             | inr u ↦
                 record {
                   from = a;
                   below = out.inner_below;
-                  inside = here_at.0;
+                  inside = both.0;
                   way = inl (
                       let part = term-le-total_below n (out_of w free a) b out.outer_below in
                       let e = cond-false (free b) 0 (w a b) u in
-                      let e' = cond-true (free a) (total_below n (out_of w free a)) 1 here_at.1 in
+                      let e' = cond-true (free a) (total_below n (out_of w free a)) 1 both.1 in
                       omega arith);
                 }
           ]

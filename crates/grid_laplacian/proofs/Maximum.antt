@@ -22,7 +22,7 @@ least (suc n) f = more (least n f)
     more r =
         let low : r.0 < suc n = r.1 in
         by_lt_z (f (suc n)) (f r.0)
-        (λ below. (suc n, omega arith, keeps (suc n) (λ i h. let here_at = r.2 i h in omega (arith, ints)) (omega (arith, ints))))
+        (λ below. (suc n, omega arith, keeps (suc n) (λ i h. let value_there = r.2 i h in omega (arith, ints)) (omega (arith, ints))))
         (λ above. (r.0, omega arith, keeps r.0 r.2 above))
 
 -- the classes at which f is at most the value of f at m
@@ -49,7 +49,7 @@ sinks : (n : ℕ) (w : ℕ → ℕ → ℕ) (f : ℕ → ℤ) (a b : ℕ) → ((
     → laplacian n w f a <ℤ pos 0
 sinks n w f a b low h p up =
     let whole = sum_below-le-term n (λ j. pos (w a j) *ℤ (f a -ℤ f j)) (λ j k. term_low (w a j) (f a) (f j) (low j k)) b h in
-    let here_at = term_below (w a b) (f a) (f b) p up in
+    let value_there = term_below (w a b) (f a) (f b) p up in
     omega (arith, ints)
 
 pub maximum : (n : ℕ) (w : ℕ → ℕ → ℕ) (free : ℕ → Bool) → IsGrounded n w free → (f : ℕ → ℤ)
@@ -70,4 +70,4 @@ maximum (suc n) w free grounded f inside edge i h =
     let bad = sinks (suc n) w f out.inner out.outer low out.outer_below out.joined (omega (arith, ints)) in
     let good = inside out.inner out.inner_below (none out.inner out.inner_below at_in) in
     absurd (omega (arith, ints)))
-    (λ fine. let here_at = r.2 i h in omega (arith, ints))
+    (λ fine. let value_there = r.2 i h in omega (arith, ints))

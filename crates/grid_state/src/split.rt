@@ -1,6 +1,6 @@
 //! The slack node, and the nodes that a state leaves stranded.
 
-ghost use Rattle.std.specs.Prelude.{◌≡◌, ◌<◌, ◌≤◌, ◌==◌, ◌&&◌, ◌||◌, not, length, position, All, IfOk, IfSome};
+ghost use Rattle.std.specs.Prelude.{◌≡◌, ◌<◌, ◌≤◌, ◌==◌, ◌&&◌, ◌||◌, not, length, position, None, All, IfOk, IfSome};
 ghost use Rattle.grid_state.specs.GridState.{class_at, is_live};
 ghost use Rattle.grid_state.specs.Marks.{MarksMore, first_marked};
 ghost use Rattle.grid_state.specs.Split.{slack_node_of, is_nonzero, injection_of, is_weighted, is_keyed_in, is_keyed, AreKeysOf};
@@ -21,7 +21,8 @@ fn angle_node(nodes: &[Node]) -> Option<usize>
 /// The slack node: the one that is named, or else the first node of type 3. There is none exactly where none is named and no
 /// node is of type 3.
 pub fn slack_of(grid: &Grid, named: Option<u32>) -> Option<u32>
-    ensures { result ≡ slack_node_of grid.now.nodes named }
+    ensures node { result ≡ slack_node_of grid.now.nodes named }
+    ensures found_in_grid { named ≡ None → IfSome result (λ node. node < length grid.now.nodes) }
 {
     match named {
         Some(node) => Some(node),
