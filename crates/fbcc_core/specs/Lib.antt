@@ -1,4 +1,5 @@
 pub mod Causes
+pub mod Nets
 pub mod Seen
 pub mod Statuses
 pub mod Telling

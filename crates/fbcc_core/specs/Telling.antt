@@ -2,7 +2,7 @@
 use Rattle.std.specs.Prelude.{◌≡◌, ◌⊎◌, Option, Some, None}
 use Rattle.fbcc_core.specs.Causes.{IsOutOfMemory}
 use Rattle.fbcc_core.specs.declared.answer.Fault.{Fault}
-use Rattle.fbcc_core.specs.declared.answer.Fault.TheVariants.{No, Usage, ReadFault, TooLong, CertificateFault, WriteFault, Memory}
+use Rattle.fbcc_core.specs.declared.answer.Fault.TheVariants.{No, Usage, ReadFault, TooLong, GridFault, CertificateFault, WriteFault, Memory}
 
 -- its line has a name or a number in it, for which memory is taken
 abbrev pub IsMade : Fault → Type 0
@@ -10,6 +10,7 @@ IsMade (No row reason) = ⊥
 IsMade Usage = ⊥
 IsMade (ReadFault document) = Unit {0}
 IsMade (TooLong document limit) = Unit {0}
+IsMade (GridFault line kind) = Unit {0}
 IsMade (CertificateFault row) = Unit {0}
 IsMade WriteFault = ⊥
 IsMade (Memory e) = ⊥

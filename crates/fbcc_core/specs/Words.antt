@@ -1,7 +1,7 @@
 -- The words that are a command with its options. A word is the bytes of its text.
 use Rattle.std.specs.Prelude.{◌≡◌, ◌≢◌, ℕ, List, [], ◌∷◌, codes}
 use Rattle.fbcc_core.specs.declared.answer.Document.{Document}
-use Rattle.fbcc_core.specs.declared.answer.Document.TheVariants.{Rows}
+use Rattle.fbcc_core.specs.declared.answer.Document.TheVariants.{Rows, Grid}
 
 -- a value does not begin with -
 abbrev pub IsValue : List ℕ → Type 0
@@ -16,6 +16,7 @@ pub record AreWords (words : List (List ℕ)) (command option value : List ℕ) 
 -- the words ask for the document under this name
 abbrev pub AsksFor : List (List ℕ) → Document → List ℕ → Type 0
 AsksFor words Rows name = AreWords words (codes "rows") (codes "--rows") name
+AsksFor words Grid name = AreWords words (codes "net") (codes "--grid") name
 
 -- the words are a command with its options
 pub record Accepts (words : List (List ℕ)) : Type 0 where

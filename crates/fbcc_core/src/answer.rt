@@ -4,11 +4,13 @@ ghost use Rattle.std.specs.Prelude.{◌≡◌};
 ghost use Rattle.fbcc_core.specs.Statuses.{status_of, limit_of, name_of};
 
 use std::alloc::AllocError;
+use ucte_reader::GridKind;
 
 /// A document that a command reads.
 #[derive(Clone, Copy, Debug, PartialEq, Eq)]
 pub enum Document {
     Rows,
+    Grid,
 }
 
 /// Why multipliers or a certificate are not valid.
@@ -29,6 +31,8 @@ pub enum Fault {
     ReadFault { document: Document },
     /// The document has more than `limit` bytes.
     TooLong { document: Document, limit: u64 },
+    /// This line of the grid is the first that has a fault, and this is its first one.
+    GridFault { line: u64, kind: GridKind },
     /// This line of the rows document is its first bad one.
     CertificateFault { row: u64 },
     /// The output failed.
@@ -54,6 +58,7 @@ pub fn status(fault: &Option<Fault>) -> u8
         Some(Fault::Usage) => 2,
         Some(Fault::ReadFault { .. }) => 3,
         Some(Fault::TooLong { .. }) => 4,
+        Some(Fault::GridFault { .. }) => 5,
         Some(Fault::CertificateFault { .. }) => 14,
         Some(Fault::WriteFault) => 15,
         Some(Fault::Memory(_)) => 16,
@@ -67,6 +72,7 @@ impl Document {
     {
         match self {
             Document::Rows => 67_108_864,
+            Document::Grid => 67_108_864,
         }
     }
 
@@ -76,6 +82,7 @@ impl Document {
     {
         match self {
             Document::Rows => "rows",
+            Document::Grid => "grid",
         }
     }
 }

@@ -6,7 +6,8 @@ ghost use Rattle.fbcc_core.specs.Seen.{shelf_seen, sink_seen};
 ghost use Rattle.fbcc_core.specs.Statuses.{status_of};
 ghost use Rattle.fbcc_core.specs.Words.{Accepts};
 
-use crate::answer::{Fault, Outcome, status};
+use crate::answer::{Document, Fault, Outcome, status};
+use crate::net_command::print_net;
 use crate::request::asked;
 use crate::rows_command::judge_rows;
 use crate::telling::tell;
@@ -27,16 +28,17 @@ pub fn fbcc<H: Shelf, O: Sink, E: Sink>(
     ensures usage { (result.fault ≡ Some Fault.Usage) ↔ ¬ Accepts (map string_bytes words.now) }
     ensures untouched { result.fault ≡ Some Fault.Usage → shelf.new ≡ shelf.old }
 
-    // Each answer comes only by its cause. At status 0 the multipliers of the document prove its target, which then holds at
-    // every balanced list of net positions in the box that meets the cited rows.
+    // Each answer comes only by its cause. At status 0 of `rows` the multipliers of the document prove its target, which then
+    // holds at every balanced list of net positions in the box that meets the cited rows; at status 0 of `net` the document is
+    // a grid.
     ensures caused { IsCaused (map string_bytes words.now) (shelf_seen H.tells H.held H.faults H.last_failed shelf.old shelf.new) (sink_seen O.tells O.taken O.faults out.old out.new) result.fault }
 
     // Each refusal and each verdict comes wherever it is caused, unless the outside failed or memory ran out.
     ensures refuses { Refuses (map string_bytes words.now) (shelf_seen H.tells H.held H.faults H.last_failed shelf.old shelf.new) (sink_seen O.tells O.taken O.faults out.old out.new) result.fault }
     ensures judges { Judges (map string_bytes words.now) (shelf_seen H.tells H.held H.faults H.last_failed shelf.old shelf.new) (sink_seen O.tells O.taken O.faults out.old out.new) result.fault }
 
-    // What was put to the output and to the error output.
-    ensures put { IsPut (sink_seen O.tells O.taken O.faults out.old out.new) result.fault }
+    // What was put to the output and to the error output. At status 0 it is `yes`, or the net text of the grid.
+    ensures put { IsPut (map string_bytes words.now) (shelf_seen H.tells H.held H.faults H.last_failed shelf.old shelf.new) (sink_seen O.tells O.taken O.faults out.old out.new) result.fault }
     ensures told { IsTold (sink_seen E.tells E.taken E.faults err.old err.new) result.fault }
 {
     let answer = answer_to(alloc, words, shelf, out);
@@ -57,10 +59,11 @@ fn answer_to<H: Shelf, O: Sink>(
     ensures usage { (result ≡ Some Fault.Usage) ↔ ¬ Accepts (map string_bytes words.now) }
     ensures untouched { result ≡ Some Fault.Usage → shelf.new ≡ shelf.old }
     ensures caused { IsCaused (map string_bytes words.now) (shelf_seen H.tells H.held H.faults H.last_failed shelf.old shelf.new) (sink_seen O.tells O.taken O.faults out.old out.new) result }
-    ensures put { IsPut (sink_seen O.tells O.taken O.faults out.old out.new) result }
+    ensures put { IsPut (map string_bytes words.now) (shelf_seen H.tells H.held H.faults H.last_failed shelf.old shelf.new) (sink_seen O.tells O.taken O.faults out.old out.new) result }
 {
     match asked(words) {
         None => Some(Fault::Usage),
-        Some(name) => judge_rows(alloc, name, shelf, out),
+        Some((Document::Rows, name)) => judge_rows(alloc, name, shelf, out),
+        Some((Document::Grid, name)) => print_net(alloc, name, shelf, out),
     }
 }

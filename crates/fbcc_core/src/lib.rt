@@ -4,6 +4,8 @@
 
 mod answer;
 mod call;
+mod fetching;
+mod net_command;
 mod output;
 mod request;
 mod rows_command;

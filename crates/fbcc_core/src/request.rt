@@ -5,9 +5,9 @@ ghost use Rattle.fbcc_core.specs.Words.{Accepts, AsksFor, IsValue};
 
 use crate::answer::Document;
 
-/// The name of the rows document for which the words ask, if they are `rows --rows NAME`.
-pub fn asked(words: &[String]) -> Option<&str>
-    ensures { MatchOption result (¬ Accepts (map string_bytes words.now)) (λ name. AsksFor (map string_bytes words.now) Document.Rows name.now) }
+/// The document for which the words ask, with its name, if they are `rows --rows NAME` or `net --grid NAME`.
+pub fn asked(words: &[String]) -> Option<(Document, &str)>
+    ensures { MatchOption result (¬ Accepts (map string_bytes words.now)) (λ asked. AsksFor (map string_bytes words.now) asked.0 asked.1.now) }
 {
     let [command, option, value] = words else {
         return None;
@@ -16,7 +16,10 @@ pub fn asked(words: &[String]) -> Option<&str>
         return None;
     }
     if command.as_str() == "rows" && option.as_str() == "--rows" {
-        return Some(value.as_str());
+        return Some((Document::Rows, value.as_str()));
+    }
+    if command.as_str() == "net" && option.as_str() == "--grid" {
+        return Some((Document::Grid, value.as_str()));
     }
     None
 }

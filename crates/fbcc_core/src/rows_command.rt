@@ -1,16 +1,15 @@
 //! The command `rows`: whether the multipliers of a rows document prove its target.
 
-ghost use Rattle.std.specs.Prelude.{◌≡◌, ◌≢◌, ℕ, ◌≤◌, List, Some, IsTrue, IfOk, IfErr, length};
-ghost use Rattle.fb_base.specs.Documents.{Holds};
+ghost use Rattle.std.specs.Prelude.{◌≡◌, ◌≢◌, ℕ, List, Some, IfOk, IfErr};
 ghost use Rattle.fbcc_core.specs.Causes.{IsCaused, IsPut};
 ghost use Rattle.fbcc_core.specs.Seen.{shelf_seen, sink_seen};
-ghost use Rattle.fbcc_core.specs.Statuses.{limit_of};
 ghost use Rattle.fbcc_core.specs.Words.{AsksFor};
-ghost use Rattle.fbcc_core.specs.Working.{IsFetchFault, IsVerdictOn, IsJudgingFault, IsVerdictPut};
+ghost use Rattle.fbcc_core.specs.Working.{IsVerdictOn, IsJudgingFault, IsVerdictPut};
 
 use crate::answer::{Document, Fault, Reason};
-use crate::output::put_all;
-use fb_base::{Fetch, Shelf, Sink};
+use crate::fetching::fetch_document;
+use crate::output::{put_all, put_text};
+use fb_base::{Shelf, Sink};
 use redundancy::follows;
 use rows_document::{RowsError, read_rows};
 use std::alloc::Global;
@@ -33,7 +32,7 @@ pub fn judge_rows<H: Shelf, O: Sink>(
 ) -> Option<Fault>
     ensures no_usage { result ≢ Some Fault.Usage }
     ensures caused { (words : List (List ℕ)) → AsksFor words Document.Rows name.now → IsCaused words (shelf_seen H.tells H.held H.faults H.last_failed shelf.old shelf.new) (sink_seen O.tells O.taken O.faults out.old out.new) result }
-    ensures put { IsPut (sink_seen O.tells O.taken O.faults out.old out.new) result }
+    ensures put { (words : List (List ℕ)) → AsksFor words Document.Rows name.now → IsPut words (shelf_seen H.tells H.held H.faults H.last_failed shelf.old shelf.new) (sink_seen O.tells O.taken O.faults out.old out.new) result }
 {
     let bytes = match fetch_document(alloc, Document::Rows, name, shelf) {
         Ok(bytes) => bytes,
@@ -44,25 +43,6 @@ pub fn judge_rows<H: Shelf, O: Sink>(
         Err(fault) => return Some(fault),
     };
     put_verdict(alloc, verdict, out)
-}
-
-/// The bytes of a document.
-fn fetch_document<H: Shelf>(
-    alloc: Global,
-    document: Document,
-    name: &str,
-    shelf: &mut H,
-) -> Result<Vec<u8>, Fault>
-    ensures told { IfOk result (λ bytes. IsTrue (H.tells shelf.old) → Holds (H.held shelf.old) name.now bytes.items) }
-    ensures within { IfOk result (λ bytes. length bytes.items ≤ limit_of document) }
-    ensures fault { IfErr result (IsFetchFault (shelf_seen H.tells H.held H.faults H.last_failed shelf.old shelf.new) document name.now) }
-{
-    match shelf.fetch(alloc, name, document.limit()) {
-        Ok(bytes) => Ok(bytes),
-        Err(Fetch::Failed) => Err(Fault::ReadFault { document }),
-        Err(Fetch::TooLong { limit }) => Err(Fault::TooLong { document, limit }),
-        Err(Fetch::Memory(e)) => Err(Fault::Memory(e)),
-    }
 }
 
 /// Reads the bytes as a rows document, and judges it.
@@ -93,10 +73,7 @@ fn put_verdict<O: Sink>(alloc: Global, verdict: Verdict, out: &mut O) -> Option<
     ensures { IsVerdictPut verdict (sink_seen O.tells O.taken O.faults out.old out.new) result }
 {
     match verdict {
-        Verdict::Yes => match put_all(out, b"yes\n") {
-            Ok(()) => None,
-            Err(_failed) => Some(Fault::WriteFault),
-        },
+        Verdict::Yes => put_text(out, b"yes\n"),
         Verdict::No { row } => {
             let text = match format!(in alloc; "no {row} Follows\n") {
                 Ok(text) => text,

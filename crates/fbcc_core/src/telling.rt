@@ -4,13 +4,14 @@ ghost use Rattle.std.specs.Prelude.{◌≡◌, Some, IfOk, IfSome, IfNone, strin
 ghost use Rattle.fbcc_core.specs.Causes.{IsTold, IsLineTold, Took, TookPrefix};
 ghost use Rattle.fbcc_core.specs.Seen.{sink_seen};
 ghost use Rattle.fbcc_core.specs.Telling.{IsMade, IsFaultKept, IsKept};
-ghost use Rattle.fbcc_core.specs.Texts.{fault_line};
+ghost use Rattle.fbcc_core.specs.Texts.{fault_line, kind_text};
 ghost use Rattle.std.specs.Prelude.{◌⊎◌};
 
 use crate::answer::Fault;
 use crate::output::put_all;
 use fb_base::Sink;
 use std::alloc::{AllocError, Global};
+use ucte_reader::GridKind;
 
 /// Tells the answer, if a line is due for it. Where there is no memory for the line, the answer becomes want of memory.
 pub fn tell<E: Sink>(alloc: Global, answer: Option<Fault>, err: &mut E) -> Option<Fault>
@@ -65,6 +66,7 @@ fn fixed_line(fault: &Fault) -> Option<&'static str>
         Fault::Usage => Some("usage: fbcc COMMAND [--name value]\n"),
         Fault::ReadFault { .. } => None,
         Fault::TooLong { .. } => None,
+        Fault::GridFault { .. } => None,
         Fault::CertificateFault { .. } => None,
         Fault::WriteFault => Some("cannot write\n"),
         Fault::Memory(_) => Some("out of memory\n"),
@@ -87,10 +89,36 @@ fn made_line(alloc: Global, fault: &Fault) -> Result<String, AllocError>
             let name = document.name();
             format!(in alloc; "{name} is longer than {limit} bytes\n")
         }
+        Fault::GridFault { line, kind } => {
+            let kind = grid_kind_name(*kind);
+            format!(in alloc; "grid line {line}: {kind}\n")
+        }
         Fault::CertificateFault { row } => {
             format!(in alloc; "certificate row {row} cannot be read\n")
         }
         Fault::WriteFault => unreachable!(),
         Fault::Memory(_) => unreachable!(),
+    }
+}
+
+/// The name of what is wrong with a line of a grid.
+fn grid_kind_name(kind: GridKind) -> &'static str
+    ensures { result.now ≡ kind_text kind }
+{
+    match kind {
+        GridKind::UnknownBlock => "UnknownBlock",
+        GridKind::BadNumber => "BadNumber",
+        GridKind::BadCode => "BadCode",
+        GridKind::BadStatus => "BadStatus",
+        GridKind::DuplicateNode => "DuplicateNode",
+        GridKind::DuplicateBranch => "DuplicateBranch",
+        GridKind::UnknownNode => "UnknownNode",
+        GridKind::UnknownBranch => "UnknownBranch",
+        GridKind::NegativeReactance => "NegativeReactance",
+        GridKind::SusceptanceOutOfRange => "SusceptanceOutOfRange",
+        GridKind::InjectionOutOfRange => "InjectionOutOfRange",
+        GridKind::TooMany => "TooMany",
+        GridKind::NoNodes => "NoNodes",
+        GridKind::BadPhase => "BadPhase",
     }
 }
