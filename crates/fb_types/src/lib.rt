@@ -1,13 +1,15 @@
-//! Plain data that the crates share: text and lists, the grid, shift keys, rows over net positions and the multipliers
-//! that prove one row from others.
+//! Plain data that the crates share: text and lists, the grid, contingencies and elements, shift keys, rows over net
+//! positions and the multipliers that prove one row from others.
 #![tactic(auto)]
 
+pub mod crac;
 pub mod grid;
 pub mod items;
 pub mod keys;
 pub mod rows;
 pub mod text;
 
+pub use crac::{Contingency, Crac, Element};
 pub use grid::{Branch, BranchKind, Grid, Node};
 pub use items::Items;
 pub use keys::{Block, Column, Weight};
@@ -25,6 +27,7 @@ mod tests {
     #[test]
     fn data_is_kept_and_shared(rt: HostRuntime) -> Result<(), AllocError> {
         is_shared::<Grid>();
+        is_shared::<Crac>();
         is_shared::<Column>();
         is_shared::<Half>();
         is_shared::<Fate>();
