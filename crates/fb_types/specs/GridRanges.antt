@@ -1,5 +1,5 @@
 -- The ranges of a grid's numbers: powers in watts, susceptances in kW/rad.
-use Rattle.std.specs.Prelude.{◌≢◌, ℕ, ◌+◌, ◌^◌, ◌<◌, ◌≤◌, pos, ◌≤ℤ◌, List, IsTrue, sum_by, unsigned_abs}
+use Rattle.std.specs.Prelude.{◌≢◌, ℕ, ◌+◌, ◌^◌, ◌<◌, ◌≤◌, pos, ◌≤ℤ◌, List, length, IsTrue, sum_by, unsigned_abs}
 use Rattle.std.specs.List.{All}
 use Rattle.fb_types.specs.declared.grid.Node.{Node}
 use Rattle.fb_types.specs.declared.grid.Branch.{Branch}
@@ -27,3 +27,10 @@ pub record IsBranch (nodes : ℕ) (branch : Branch) : Type 0 where
 
 pub record AreBranches (nodes : ℕ) (branches : List Branch) : Type 0 where
   pub each : All (IsBranch nodes) branches
+
+-- the nodes and the branches make a grid
+pub record IsGrid (nodes : List Node) (branches : List Branch) : Type 0 where
+  pub few_nodes : length nodes ≤ 4096
+  pub few_branches : length branches ≤ 16384
+  pub injections : AreInjections nodes
+  pub branches_in_range : AreBranches (length nodes) branches

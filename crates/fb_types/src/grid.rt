@@ -1,7 +1,7 @@
 //! A transmission grid as the UCTE data exchange format describes it, with the numbers of the direct-current load flow.
 
-ghost use Rattle.fb_types.specs.GridRanges.{AreBranches, AreInjections};
-ghost use Rattle.std.specs.Prelude.{◌≤◌, length};
+ghost use Rattle.fb_types.specs.GridRanges.{IsBranch, IsRunning, AreBranches, AreInjections, IsGrid};
+ghost use Rattle.std.specs.Prelude.{◌≡◌, ◌≤◌, length, IsTrue, ◌↔◌, MatchOption};
 
 use crate::items::Items;
 use crate::text::Text;
@@ -61,4 +61,64 @@ pub struct Grid {
     pub ghost few_branches: { length branches ≤ 16384 },
     pub ghost injections_in_range: { AreInjections nodes },
     pub ghost branches_in_range: { AreBranches (length nodes) branches },
+}
+
+impl Grid {
+    /// The grid of these nodes and branches, or none where they are not in the ranges of a grid. It takes no memory.
+    pub fn new(nodes: Items<Node>, branches: Items<Branch>) -> Option<Grid>
+        ensures in_range { MatchOption result (¬ IsGrid nodes branches) (λ grid. (grid.nodes ≡ nodes) × (grid.branches ≡ branches)) }
+    {
+        if nodes.len() <= 4096
+            && branches.len() <= 16384
+            && are_injections(nodes.as_slice())
+            && are_branches(branches.as_slice(), nodes.len())
+        {
+            Some(Grid { nodes, branches })
+        } else {
+            None
+        }
+    }
+}
+
+fn is_running(branch: &Branch) -> bool
+    ensures { IsTrue result ↔ IsRunning branch.now }
+{
+    branch.in_operation && branch.kind != BranchKind::Coupler
+}
+
+/// Whether the ends of the branch are among so many nodes, and its susceptance is in range where it is in operation.
+fn is_branch(branch: &Branch, nodes: u64) -> bool
+    ensures { IsTrue result ↔ IsBranch nodes branch.now }
+{
+    let is_in_range = 1 <= branch.b && branch.b <= 100_000_000_000;
+    u64::from(branch.from) < nodes
+        && u64::from(branch.to) < nodes
+        && (!is_running(branch) || is_in_range)
+}
+
+fn are_branches(branches: &[Branch], nodes: u64) -> bool
+    ensures { IsTrue result ↔ AreBranches nodes branches.now }
+{
+    for branch in branches {
+        if !is_branch(branch, nodes) {
+            return false;
+        }
+    }
+    true
+}
+
+/// Whether all loads and generations together are in range.
+fn are_injections(nodes: &[Node]) -> bool
+    ensures { IsTrue result ↔ AreInjections nodes.now }
+{
+    let mut left: u64 = 1_000_000_000_000;
+    for node in nodes {
+        let size = u128::from(node.load.unsigned_abs())
+            + u128::from(node.generation.unsigned_abs());
+        if size > u128::from(left) {
+            return false;
+        }
+        left -= size as u64;
+    }
+    true
 }

@@ -19,7 +19,7 @@ pub use text::Text;
 #[cfg(test)]
 mod tests {
     use super::*;
-    use std::alloc::AllocError;
+    use std::alloc::{AllocError, Global};
 
     /// The types whose values threads share.
     fn is_shared<T: Send + Sync>() {}
@@ -38,6 +38,61 @@ mod tests {
         assert_eq!(rt; codes.len(), 2);
         assert_eq!(rt; codes.get(1).map(|code| code.as_text()), Some("NNL1AA1 "));
         assert!(rt; codes.get(2).is_none());
+        Ok(())
+    }
+
+    /// The grid of two nodes, one of which has this load, with a line of this susceptance to a node, in operation or not.
+    fn pair(
+        alloc: Global,
+        load: i64,
+        b: i64,
+        to: u32,
+        in_operation: bool,
+    ) -> Result<Option<Grid>, AllocError> {
+        let mut nodes = Items::new(alloc);
+        for load in [load, 1] {
+            nodes.add(Node {
+                code: Text::from_text(alloc, "BBE1AA1 ")?,
+                zone: Text::from_text(alloc, "BE")?,
+                level: 1,
+                kind: 0,
+                load,
+                generation: 0,
+            })?;
+        }
+        let mut branches = Items::new(alloc);
+        branches.add(Branch {
+            id: Text::from_text(alloc, "BBE1AA1  NNL1AA1  1")?,
+            kind: BranchKind::Line,
+            from: 0,
+            to,
+            in_operation,
+            b,
+            phi: 0,
+            current: None,
+            floored: false,
+        })?;
+        Ok(Grid::new(nodes, branches))
+    }
+
+    #[test]
+    fn a_grid_is_in_range(rt: HostRuntime) -> Result<(), AllocError> {
+        let cases = [
+            (0, 1, 1, true, true),
+            (-999_999_999_999, 100_000_000_000, 1, true, true),
+            (1_000_000_000_000, 1, 1, true, false),
+            (0, 0, 1, true, false),
+            (0, 100_000_000_001, 1, true, false),
+            (0, 0, 1, false, true),
+            (0, 1, 2, true, false),
+            (0, 1, 2, false, false),
+        ];
+        for (load, b, to, in_operation, is_grid) in cases {
+            assert_eq!(rt;
+                pair(rt.alloc(), load, b, to, in_operation)?.is_some(),
+                is_grid
+            );
+        }
         Ok(())
     }
 }

@@ -1,9 +1,5 @@
 //! Net texts of small grids, worked out by hand.
 
-ghost use Rattle.std.specs.Prelude.{◌≡◌, ◌+◌, ◌^◌, sum_by};
-ghost use Rattle.std.specs.Bool.{OnTrue};
-ghost use Rattle.fb_types.specs.GridRanges.{exchange_of, IsBranch, AreBranches, AreInjections};
-
 use crate::net_text;
 use fb_types::{Branch, BranchKind, Grid, Items, Node, Text};
 use std::alloc::{AllocError, Global};
@@ -11,42 +7,6 @@ use std::test::Fail;
 
 /// A node of a table: its two-letter code, and its load and generation in watts.
 type Place<'a> = (&'a str, i64, i64);
-
-/// Whether all loads and generations together are in range.
-fn are_injections(nodes: &[Node]) -> bool
-    ensures { OnTrue result (AreInjections nodes.now) }
-{
-    let mut left: u64 = 1_000_000_000_000;
-    for node in nodes {
-        let size = u128::from(node.load.unsigned_abs())
-            + u128::from(node.generation.unsigned_abs());
-        if size > u128::from(left) {
-            return false;
-        }
-        left -= size as u64;
-    }
-    true
-}
-
-/// Whether the branches lie between nodes, and their susceptances are in range.
-fn are_branches(branches: &[Branch], nodes: u64) -> bool
-    ensures { OnTrue result (AreBranches nodes branches.now) }
-{
-    for branch in branches {
-        if !is_branch(branch, nodes) {
-            return false;
-        }
-    }
-    true
-}
-
-fn is_branch(branch: &Branch, nodes: u64) -> bool
-    ensures { OnTrue result (IsBranch nodes branch.now) }
-{
-    u64::from(branch.from) < nodes
-        && u64::from(branch.to) < nodes
-        && (1..=100_000_000_000).contains(&branch.b)
-}
 
 /// A line from the first node to the second, its reactance raised or not.
 fn line(alloc: Global, id: &str, floored: bool) -> Result<Branch, AllocError> {
@@ -80,14 +40,10 @@ fn text_of(alloc: Global, places: &[Place], lines: &[(&str, bool)]) -> Result<Ve
     for (id, floored) in lines {
         branches.add(line(alloc, id, *floored)?)?;
     }
-    if nodes.len() > 4096
-        || branches.len() > 16384
-        || !are_injections(nodes.as_slice())
-        || !are_branches(branches.as_slice(), nodes.len())
-    {
-        return Ok(Vec::new(alloc));
+    match Grid::new(nodes, branches) {
+        Some(grid) => net_text(alloc, &grid),
+        None => Ok(Vec::new(alloc)),
     }
-    net_text(alloc, &Grid { nodes, branches })
 }
 
 #[test]

@@ -1,8 +1,7 @@
 //! Grids from tables.
 
-ghost use Rattle.std.specs.Prelude.{◌≡◌, ◌+◌, ◌<◌, ◌≤◌, ◌^◌, length, All, sum_by};
+ghost use Rattle.std.specs.Prelude.{◌<◌, All};
 ghost use Rattle.std.specs.Bool.{OnTrue};
-ghost use Rattle.fb_types.specs.GridRanges.{exchange_of, IsBranch, AreBranches, AreInjections};
 ghost use Rattle.grid_state.specs.Split.{AreKeysOf};
 
 use fb_types::{Block, Branch, BranchKind, Column, Grid, Items, Node, Text, Weight};
@@ -11,55 +10,6 @@ use std::alloc::{AllocError, Global};
 /// A branch of a table: its kind, its nodes, whether it is in operation, and its susceptance in kW/rad.
 #[derive(Clone, Copy)]
 pub struct Line(pub BranchKind, pub u32, pub u32, pub bool, pub i64);
-
-/// Whether the ends of a branch are nodes, and its susceptance is in range.
-fn is_branch(branch: &Branch, nodes: u64) -> bool
-    ensures { OnTrue result (IsBranch nodes branch.now) }
-{
-    u64::from(branch.from) < nodes
-        && u64::from(branch.to) < nodes
-        && (branch.kind == BranchKind::Coupler || (1 <= branch.b && branch.b <= 100_000_000_000))
-}
-
-fn are_branches(branches: &[Branch], nodes: u64) -> bool
-    ensures { OnTrue result (AreBranches nodes branches.now) }
-{
-    for branch in branches {
-        if !is_branch(branch, nodes) {
-            return false;
-        }
-    }
-    true
-}
-
-/// Whether all loads and generations together are in range.
-fn are_injections(nodes: &[Node]) -> bool
-    ensures { OnTrue result (AreInjections nodes.now) }
-{
-    let mut left: u64 = 1_000_000_000_000;
-    for node in nodes {
-        let size = u128::from(node.load.unsigned_abs())
-            + u128::from(node.generation.unsigned_abs());
-        if size > u128::from(left) {
-            return false;
-        }
-        left -= size as u64;
-    }
-    true
-}
-
-/// A grid of these nodes and branches, if they are in range.
-fn checked(nodes: Items<Node>, branches: Items<Branch>) -> Option<Grid> {
-    if nodes.len() <= 4096
-        && branches.len() <= 16384
-        && are_injections(nodes.as_slice())
-        && are_branches(branches.as_slice(), nodes.len())
-    {
-        Some(Grid { nodes, branches })
-    } else {
-        None
-    }
-}
 
 /// A node of a table: its type, load and generation in watts.
 pub type Place = (u8, i64, i64);
@@ -95,7 +45,7 @@ pub fn grid_of(
             floored: false,
         })?;
     }
-    Ok(checked(nodes, branches))
+    Ok(Grid::new(nodes, branches))
 }
 
 /// Whether the numbers are below a limit.
