@@ -3,11 +3,12 @@ use Rattle.std.proofs.Common.{◌≡◌, ℕ, ℤ, pos, ◌+◌, ◌^◌, Bool, 
 use Rattle.std.specs.Prelude.{is_none, unwrap_or, nat_lt, nat_abs, int_lt, if◌then◌else◌}
 use Rattle.std.specs.Option.{option_or}
 use Rattle.fb_types.specs.declared.grid.Branch.{Branch}
-use Rattle.ucte_reader.specs.Codes.{first_code, second_code, code_text, id_text, is_among}
-use Rattle.ucte_reader.specs.Checks.{first_failing}
+use Rattle.name_tables.specs.Names.{is_among}
+use Rattle.name_tables.specs.Tables.{with_name}
+use Rattle.ucte_reader.specs.Codes.{first_code, second_code, code_text, id_text}
+use Rattle.first_fault.specs.Checks.{first_failing}
 use Rattle.ucte_reader.specs.Branches.{is_running, is_coupler, is_in_operation, branch_kind, status_in, reactance_in, voltage_in, limit_in, known_status, known_reactance, least_reactance, susceptance_in, phase_by, branch_of}
 use Rattle.ucte_reader.specs.Steps.{IsElectrical, AreEnds, electrical_fault, joined_fault, branch_limit_fault, branch_ids, place_in}
-use Rattle.ucte_reader.specs.Tables.{with_name}
 use Rattle.ucte_reader.specs.declared.block.Form.{Form}
 use Rattle.ucte_reader.specs.declared.status.Status.{Status}
 use Rattle.ucte_reader.specs.declared.status.Status.TheVariants.{Out}
@@ -16,7 +17,7 @@ use Rattle.ucte_reader.specs.declared.branches.Ends.{Ends}
 use Rattle.ucte_reader.specs.declared.electrical.Electrical.{Electrical}
 use Rattle.ucte_reader.specs.declared.kind.GridKind.{GridKind}
 use Rattle.ucte_reader.specs.declared.kind.GridKind.TheVariants.{BadStatus, DuplicateBranch, BadNumber, NegativeReactance, SusceptanceOutOfRange, TooMany}
-use Rattle.ucte_reader.proofs.CheckLaws.{first_failing-append}
+use Rattle.first_fault.proofs.CheckLaws.{first_failing-append}
 
 known_status-is : (form : Form) (line : List ℕ) (status : Status) → status_in form line ≡ Some status → status ≡ known_status form line
 known_status-is form line status known = sym (ap (λ (o : Option Status). unwrap_or o Out) known)

@@ -1,22 +1,11 @@
 -- Checks in order, part by part.
-use Rattle.std.proofs.Common.{◌≡◌, Bool, true, false, cond, List, [], ◌∷◌, ◌++◌, Option, Some, None, Result, Ok, Err, refl, ap, ◌∙◌}
+use Rattle.std.proofs.Common.{◌≡◌, Option, None, Result, Ok, Err, ap, ◌∙◌}
 use Rattle.std.specs.Option.{option_or}
-use Rattle.ucte_reader.specs.Checks.{first_failing}
+use Rattle.first_fault.proofs.CheckLaws.{option_or-none}
 use Rattle.ucte_reader.specs.Steps.{Judges, Makes}
 use Rattle.ucte_reader.specs.declared.kind.GridKind.{GridKind}
 use Rattle.ucte_reader.specs.declared.kind.LineError.{LineError}
 use Rattle.ucte_reader.specs.declared.kind.LineError.TheVariants.{Fault, Memory}
-
-pub first_failing-append : (front back : List (Bool × GridKind)) → first_failing (front ++ back) ≡ option_or (first_failing front) (first_failing back)
-first_failing-append [] back = refl
-first_failing-append (check ∷ checks) back = ap (cond check.0 (Some check.1)) (first_failing-append checks back) ∙ by_test check.0
-  where
-    by_test : (b : Bool) → cond b (Some check.1) (option_or (first_failing checks) (first_failing back)) ≡ option_or (cond b (Some check.1) (first_failing checks)) (first_failing back)
-    by_test true = refl
-    by_test false = refl
-
-pub option_or-none : {K : Type 0} (o p : Option K) → o ≡ None → option_or o p ≡ p
-option_or-none o p e = ap (λ x. option_or x p) e
 
 -- a fault of the first part is one of the whole
 pub judged_front : {X : Type 0} (Y : Type 0) (e : LineError) (whole front back : Option GridKind) (P : X → Type 0) → whole ≡ option_or front back

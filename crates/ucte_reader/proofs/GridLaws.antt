@@ -8,10 +8,11 @@ use Rattle.fb_types.specs.GridRanges.{AreBranches}
 use Rattle.fb_types.specs.declared.grid.Node.{Node}
 use Rattle.fb_types.specs.declared.grid.Branch.{Branch}
 use Rattle.fb_types.specs.declared.grid.Grid.{Grid}
-use Rattle.ucte_reader.specs.FirstFault.{IsFirstFault, HasNoFault}
+use Rattle.first_fault.specs.FirstFault.{IsFirstFault, HasNoFault}
+use Rattle.name_tables.specs.Names.{value_at, numbered_from}
 use Rattle.ucte_reader.specs.Blocks.{Placed}
 use Rattle.ucte_reader.specs.Nodes.{codes_of}
-use Rattle.ucte_reader.specs.Facts.{Names, value_at, numbered_from, nodes_of, place_of, phase_of, names_of, branches_by, branches_of}
+use Rattle.ucte_reader.specs.Facts.{Names, nodes_of, place_of, phase_of, names_of, branches_by, branches_of}
 use Rattle.ucte_reader.specs.File.{file_of, fault_by, fault_among, IsGridFault, IsGridOf, Reads, IsFault, IsGrid}
 use Rattle.ucte_reader.specs.Steps.{capped, names_in, place_in, shift_in}
 use Rattle.ucte_reader.specs.Passes.{IsKnown, HasTaken, Finds}
@@ -22,7 +23,7 @@ use Rattle.ucte_reader.specs.declared.kind.GridKind.TheVariants.{NoNodes}
 use Rattle.ucte_reader.specs.declared.kind.GridError.{GridError}
 use Rattle.ucte_reader.specs.declared.kind.GridError.TheVariants.{Fault, Memory}
 use Rattle.ucte_reader.proofs.RangeLaws.{AreBranches-of}
-use Rattle.ucte_reader.proofs.FirstFaultLaws.{IsFirstFault-same, IsFirstFault-fault}
+use Rattle.first_fault.proofs.FirstFaultLaws.{IsFirstFault-same, IsFirstFault-fault}
 
 -- ---- the tables are those of the file
 

@@ -1,9 +1,7 @@
-pub mod TableLaws
 pub mod CheckLaws
 pub mod NodeLaws
 pub mod BranchLaws
 pub mod RegulationLaws
-pub mod FirstFaultLaws
 pub mod FactLaws
 pub mod SurveyLaws
 pub mod PassLaws

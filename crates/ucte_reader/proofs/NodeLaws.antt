@@ -4,15 +4,16 @@ use Rattle.std.specs.Prelude.{is_none, unwrap_or, nat_lt, sum_by}
 use Rattle.std.specs.Option.{option_or}
 use Rattle.fb_types.specs.GridRanges.{exchange_of}
 use Rattle.fb_types.specs.declared.grid.Node.{Node}
-use Rattle.ucte_reader.specs.Codes.{first_code, is_code, level_of, code_text, is_among}
-use Rattle.ucte_reader.specs.Checks.{first_failing}
+use Rattle.name_tables.specs.Names.{is_among}
+use Rattle.name_tables.specs.Tables.{with_name}
+use Rattle.ucte_reader.specs.Codes.{first_code, is_code, level_of, code_text}
+use Rattle.first_fault.specs.Checks.{first_failing}
 use Rattle.ucte_reader.specs.Nodes.{zone_text, kind_in, load_in, generation_in, node_of, codes_of, node_fault}
 use Rattle.ucte_reader.specs.Steps.{power_fault, node_field_fault, node_limit_fault, ArePowers}
-use Rattle.ucte_reader.specs.Tables.{with_name}
 use Rattle.ucte_reader.specs.declared.block.ZoneCode.{ZoneCode}
 use Rattle.ucte_reader.specs.declared.kind.GridKind.{GridKind}
 use Rattle.ucte_reader.specs.declared.kind.GridKind.TheVariants.{BadCode, DuplicateNode, BadStatus, BadNumber, InjectionOutOfRange, TooMany}
-use Rattle.ucte_reader.proofs.CheckLaws.{first_failing-append}
+use Rattle.first_fault.proofs.CheckLaws.{first_failing-append}
 
 pub node_field_fault-none : (line : List ℕ) (kind : ℕ) → kind_in line ≡ Some kind → power_fault line ≡ None → node_field_fault line ≡ None
 node_field_fault-none line kind known none = ap (λ (o : Option ℕ). cond (is_none o) (Some BadStatus) (power_fault line)) known ∙ none

@@ -4,7 +4,7 @@ use Rattle.std.specs.Option.{option_to_list}
 use Rattle.std.proofs.lemmas.List.{append-nil, length-append, map-append}
 use Rattle.fb_types.specs.declared.grid.Node.{Node}
 use Rattle.fb_types.specs.declared.grid.Branch.{Branch}
-use Rattle.ucte_reader.specs.FirstFault.{IsFirstFault}
+use Rattle.first_fault.specs.FirstFault.{IsFirstFault}
 use Rattle.ucte_reader.specs.Blocks.{Placed}
 use Rattle.ucte_reader.specs.Facts.{node_in, branch_in, regulation_in, regulations_of}
 use Rattle.ucte_reader.specs.File.{Earlier, earlier_of, line_fault, fault_by}
@@ -17,7 +17,7 @@ use Rattle.ucte_reader.specs.declared.kind.GridKind.{GridKind}
 use Rattle.ucte_reader.specs.declared.kind.GridError.{GridError}
 use Rattle.ucte_reader.specs.declared.kind.LineError.{LineError}
 use Rattle.ucte_reader.specs.declared.kind.LineError.TheVariants as lines
-use Rattle.ucte_reader.proofs.FirstFaultLaws.{HasNoFault-nil, HasNoFault-push}
+use Rattle.first_fault.proofs.FirstFaultLaws.{HasNoFault-nil, HasNoFault-push}
 use Rattle.ucte_reader.proofs.FactLaws.{filter_map-push, branch_ids-branches_by}
 
 earlier_in-taken : (known : Known) (lines : List Placed) (draft : Draft) → HasTaken known lines draft → earlier_in draft ≡ earlier_of lines

@@ -10,15 +10,16 @@ use Rattle.std.proofs.lemmas.List.Elements.{All-nil, All-cons}
 use Rattle.fb_types.specs.GridRanges.{IsBranch, AreBranches}
 use Rattle.fb_types.specs.declared.grid.Branch.{Branch}
 use Rattle.fb_types.specs.declared.grid.BranchKind.TheVariants as kinds
+use Rattle.name_tables.specs.Names.{value_at, numbered_from}
 use Rattle.ucte_lines.specs.Lines.{is_heading, is_blank_line}
 use Rattle.ucte_lines.specs.Fields.{field_of}
-use Rattle.ucte_reader.specs.FirstFault.{HasNoFault}
+use Rattle.first_fault.specs.FirstFault.{HasNoFault}
 use Rattle.ucte_reader.specs.Blocks.{Placed}
 use Rattle.ucte_reader.specs.Codes.{first_code, second_code, code_text}
-use Rattle.ucte_reader.specs.Checks.{first_failing}
+use Rattle.first_fault.specs.Checks.{first_failing}
 use Rattle.ucte_reader.specs.Nodes.{codes_of}
 use Rattle.ucte_reader.specs.Branches.{status_at, is_running, is_coupler, is_in_operation, branch_kind, known_status, susceptance_in, branch_of, branch_checks, branch_fault}
-use Rattle.ucte_reader.specs.Facts.{value_at, numbered_from, branch_in, nodes_of, place_of, phase_of, names_of, branches_of}
+use Rattle.ucte_reader.specs.Facts.{branch_in, nodes_of, place_of, phase_of, names_of, branches_of}
 use Rattle.ucte_reader.specs.File.{Earlier, earlier_of, line_fault, fault_among}
 use Rattle.ucte_reader.specs.declared.block.Form.{Form}
 use Rattle.ucte_reader.specs.declared.block.Form.TheVariants.{Line, Transformer}

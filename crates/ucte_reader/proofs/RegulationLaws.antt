@@ -12,7 +12,7 @@ use Rattle.ucte_reader.specs.declared.kind.GridKind.{GridKind}
 use Rattle.ucte_reader.specs.declared.kind.GridKind.TheVariants.{BadNumber, BadPhase}
 use Rattle.ucte_reader.specs.declared.kind.LineError.{LineError}
 use Rattle.ucte_reader.specs.declared.kind.LineError.TheVariants.{Fault, Memory}
-use Rattle.ucte_reader.proofs.CheckLaws.{first_failing-append, option_or-none}
+use Rattle.first_fault.proofs.CheckLaws.{first_failing-append, option_or-none}
 
 answer_is : (line : List ℕ) (setting : Setting) → IsSetting line setting → setting_answer setting ≡ shift_answer line
 unfolding shift_answer

@@ -9,12 +9,12 @@ use Rattle.std.proofs.lemmas.List.{append-nil}
 use Rattle.std.proofs.lemmas.List.Folds.{list_any-append}
 use Rattle.std.proofs.lemmas.Slice.Eq.{bytes_eq-Decides}
 use Rattle.fb_types.specs.declared.grid.Node.{Node}
+use Rattle.name_tables.specs.Names.{is_among, value_at, numbered_from}
+use Rattle.name_tables.specs.Tables.{with_name, with_names, with_entry, with_entries}
 use Rattle.ucte_lines.specs.Lines.{pieces_of, without_return}
 use Rattle.ucte_reader.specs.Blocks.{Placed, placed_from, block_after}
-use Rattle.ucte_reader.specs.Codes.{is_among}
 use Rattle.ucte_reader.specs.Nodes.{codes_of}
-use Rattle.ucte_reader.specs.Facts.{value_at, numbered_from, node_in, transformer_in, regulation_in, nodes_of, transformers_of, regulations_of}
-use Rattle.ucte_reader.specs.Tables.{with_name, with_names, with_entry, with_entries}
+use Rattle.ucte_reader.specs.Facts.{node_in, transformer_in, regulation_in, nodes_of, transformers_of, regulations_of}
 use Rattle.ucte_reader.specs.Passes.{left, AreNoted, IsKnown}
 use Rattle.ucte_reader.specs.declared.block.Block.{Block}
 use Rattle.ucte_reader.specs.declared.known.Known.{Known}

@@ -4,9 +4,10 @@ use Rattle.std.specs.Prelude.{ℕ, ℤ, pos, negsuc, nat_abs, ◌+◌, ◌*◌, 
 use Rattle.fb_types.specs.declared.grid.Branch.{Branch}
 use Rattle.fb_types.specs.declared.grid.BranchKind.{BranchKind}
 use Rattle.fb_types.specs.declared.grid.BranchKind.TheVariants as kinds
+use Rattle.name_tables.specs.Names.{is_among}
 use Rattle.ucte_lines.specs.Fields.{field_of, number_of}
-use Rattle.ucte_reader.specs.Codes.{first_code, second_code, is_code, level_of, code_text, id_text, is_among}
-use Rattle.ucte_reader.specs.Checks.{first_failing}
+use Rattle.ucte_reader.specs.Codes.{first_code, second_code, is_code, level_of, code_text, id_text}
+use Rattle.first_fault.specs.Checks.{first_failing}
 use Rattle.ucte_reader.specs.declared.block.Form.{Form}
 use Rattle.ucte_reader.specs.declared.block.Form.TheVariants.{Line, Transformer}
 use Rattle.ucte_reader.specs.declared.status.Status.{Status}

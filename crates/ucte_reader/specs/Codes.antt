@@ -1,8 +1,7 @@
 -- Node codes and the ids of branches. A text is its bytes in UTF-8.
 use Rattle.std.specs.Prelude.{ℕ, ◌-◌, Bool, ◌&&◌, nat_le, List, ◌∷◌, ◌++◌, length, slice_index}
-use Rattle.std.specs.List.{list_any}
 use Rattle.std.specs.Char.{is_ascii_digit}
-use Rattle.std.specs.Str.{bytes_eq, encode_utf8_all}
+use Rattle.std.specs.Str.{encode_utf8_all}
 use Rattle.ucte_lines.specs.Fields.{field_of, padded}
 
 -- the code of a node, and of the first node of a branch
@@ -30,7 +29,3 @@ code_text code = encode_utf8_all (padded 8 code)
 -- the id of a branch: code, blank, code, blank, order code
 unfoldable pub id_text : List ℕ → List ℕ
 id_text line = encode_utf8_all (padded 8 (first_code line) ++ 32 ∷ (padded 8 (second_code line) ++ 32 ∷ padded 1 (order_code line)))
-
--- one of these texts
-abbrev pub is_among : List (List ℕ) → List ℕ → Bool
-is_among texts text = list_any (λ t. bytes_eq text t) texts

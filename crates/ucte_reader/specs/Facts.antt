@@ -1,12 +1,11 @@
 -- What the lines of a file say, each in its block.
-use Rattle.std.specs.Prelude.{ℕ, ℤ, pos, ◌+◌, Bool, List, [], ◌∷◌, Option, Some, None, is_some, unwrap_or, if◌then◌else◌}
+use Rattle.std.specs.Prelude.{ℕ, ℤ, pos, Bool, List, Option, Some, None, is_some, unwrap_or, if◌then◌else◌}
 use Rattle.std.specs.List.{filter_map}
-use Rattle.std.specs.Map.{lookup}
-use Rattle.std.specs.Str.{bytes_eq}
 use Rattle.fb_types.specs.declared.grid.Node.{Node}
 use Rattle.fb_types.specs.declared.grid.Branch.{Branch}
+use Rattle.name_tables.specs.Names.{is_among, value_at, numbered_from}
 use Rattle.ucte_reader.specs.Blocks.{Placed, is_entry}
-use Rattle.ucte_reader.specs.Codes.{id_text, is_among}
+use Rattle.ucte_reader.specs.Codes.{id_text}
 use Rattle.ucte_reader.specs.Nodes.{node_of, codes_of}
 use Rattle.ucte_reader.specs.Branches.{branch_of}
 use Rattle.ucte_reader.specs.Regulations.{shift_of}
@@ -78,15 +77,6 @@ transformers_of lines = filter_map (λ p. transformer_in p.block p.text) lines
 
 abbrev pub regulations_of : List Placed → List (List ℕ × ℤ)
 regulations_of lines = filter_map (λ p. regulation_in p.block p.text) lines
-
--- what stands beside the first entry of this name
-abbrev pub value_at : {V : Type 0} → List (List ℕ × V) → List ℕ → Option V
-value_at entries name = lookup (λ n. bytes_eq name n) entries
-
--- codes with their places, which go on from n
-abbrev pub numbered_from : ℕ → List (List ℕ) → List (List ℕ × ℕ)
-numbered_from n [] = []
-numbered_from n (code ∷ codes) = (code, n) ∷ numbered_from (n + 1) codes
 
 -- the codes of all nodes with their places, counted from 0
 abbrev pub places_of : List Placed → List (List ℕ × ℕ)

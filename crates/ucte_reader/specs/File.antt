@@ -3,7 +3,7 @@ use Rattle.std.specs.Prelude.{◌≡◌, ◌⊎◌, ℕ, ◌<◌, List, [], map,
 use Rattle.fb_types.specs.declared.grid.Node.{Node}
 use Rattle.fb_types.specs.declared.grid.Grid.{Grid}
 use Rattle.ucte_lines.specs.Lines.{characters_of, is_heading, is_blank_line, key_of}
-use Rattle.ucte_reader.specs.FirstFault.{IsFirstFault, HasNoFault}
+use Rattle.first_fault.specs.FirstFault.{IsFirstFault, HasNoFault}
 use Rattle.ucte_reader.specs.Blocks.{Placed, block_of, placed}
 use Rattle.ucte_reader.specs.Nodes.{node_fault}
 use Rattle.ucte_reader.specs.Branches.{branch_fault}

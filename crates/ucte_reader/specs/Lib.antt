@@ -1,12 +1,9 @@
-pub mod FirstFault
 pub mod Blocks
 pub mod Codes
-pub mod Checks
 pub mod Nodes
 pub mod Branches
 pub mod Regulations
 pub mod Facts
 pub mod File
-pub mod Tables
 pub mod Steps
 pub mod Passes

@@ -3,9 +3,10 @@ use Rattle.std.specs.Prelude.{ℕ, ℤ, pos, ◌+◌, ◌-◌, ◌^◌, not, ◌
 use Rattle.std.specs.Str.{encode_utf8_all}
 use Rattle.fb_types.specs.GridRanges.{exchange_of}
 use Rattle.fb_types.specs.declared.grid.Node.{Node}
+use Rattle.name_tables.specs.Names.{is_among}
 use Rattle.ucte_lines.specs.Fields.{field_of, number_or_zero}
-use Rattle.ucte_reader.specs.Codes.{first_code, is_code, level_of, code_text, is_among}
-use Rattle.ucte_reader.specs.Checks.{first_failing}
+use Rattle.ucte_reader.specs.Codes.{first_code, is_code, level_of, code_text}
+use Rattle.first_fault.specs.Checks.{first_failing}
 use Rattle.ucte_reader.specs.declared.block.ZoneCode.{ZoneCode}
 use Rattle.ucte_reader.specs.declared.kind.GridKind.{GridKind}
 use Rattle.ucte_reader.specs.declared.kind.GridKind.TheVariants.{BadCode, DuplicateNode, BadStatus, BadNumber, InjectionOutOfRange, TooMany}

@@ -1,11 +1,11 @@
 -- How the two passes go over the lines. Nobody need believe these words: the contracts that cite them are private.
 use Rattle.std.specs.Prelude.{◌≡◌, ℕ, ◌||◌, List, ◌++◌, length, map, Result, Ok, Err}
+use Rattle.name_tables.specs.Names.{is_among, numbered_from, value_at}
 use Rattle.ucte_lines.specs.Lines.{lines_of}
-use Rattle.ucte_reader.specs.FirstFault.{IsFirstFault, HasNoFault}
+use Rattle.first_fault.specs.FirstFault.{IsFirstFault, HasNoFault}
 use Rattle.ucte_reader.specs.Blocks.{Placed, placed_from}
-use Rattle.ucte_reader.specs.Codes.{is_among}
 use Rattle.ucte_reader.specs.Nodes.{codes_of}
-use Rattle.ucte_reader.specs.Facts.{nodes_of, branches_by, transformers_of, regulations_of, numbered_from, places_of, value_at}
+use Rattle.ucte_reader.specs.Facts.{nodes_of, branches_by, transformers_of, regulations_of, places_of}
 use Rattle.ucte_reader.specs.File.{Earlier, fault_by}
 use Rattle.ucte_reader.specs.Steps.{KeepsNodes, KeepsBranches, branch_ids, names_in, place_in, shift_in}
 use Rattle.ucte_reader.specs.declared.block.Block.{Block}

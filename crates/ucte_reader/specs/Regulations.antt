@@ -7,9 +7,10 @@ use Rattle.phase_rule.specs.Shift.{phase_shift_of}
 use Rattle.phase_rule.specs.declared.PhaseFault.{PhaseFault}
 use Rattle.phase_rule.specs.declared.Regulation.{Regulation}
 use Rattle.phase_rule.specs.declared.Regulation.TheVariants.{Asym, Symm}
+use Rattle.name_tables.specs.Names.{is_among}
 use Rattle.ucte_lines.specs.Fields.{field_of, number_of, number_or_zero}
-use Rattle.ucte_reader.specs.Codes.{first_code, second_code, is_code, id_text, is_among}
-use Rattle.ucte_reader.specs.Checks.{first_failing}
+use Rattle.ucte_reader.specs.Codes.{first_code, second_code, is_code, id_text}
+use Rattle.first_fault.specs.Checks.{first_failing}
 use Rattle.ucte_reader.specs.declared.kind.GridKind.{GridKind}
 use Rattle.ucte_reader.specs.declared.kind.GridKind.TheVariants.{BadCode, UnknownBranch, DuplicateBranch, BadNumber, BadPhase}
 

@@ -8,13 +8,14 @@ use Rattle.phase_rule.specs.Shift.{phase_shift_of}
 use Rattle.phase_rule.specs.declared.PhaseFault.{PhaseFault}
 use Rattle.phase_rule.specs.declared.Regulation.{Regulation}
 use Rattle.phase_rule.specs.declared.Regulation.TheVariants.{Asym}
+use Rattle.name_tables.specs.Names.{is_among, value_at}
 use Rattle.ucte_lines.specs.Fields.{field_of, number_of}
-use Rattle.ucte_reader.specs.Codes.{first_code, second_code, is_code, code_text, id_text, is_among}
-use Rattle.ucte_reader.specs.Checks.{first_failing}
+use Rattle.ucte_reader.specs.Codes.{first_code, second_code, is_code, code_text, id_text}
+use Rattle.first_fault.specs.Checks.{first_failing}
 use Rattle.ucte_reader.specs.Nodes.{node_of, codes_of, kind_in, load_in, generation_in}
 use Rattle.ucte_reader.specs.Branches.{is_running, is_coupler, status_in, reactance_in, voltage_in, limit_in, known_status, known_reactance, least_reactance, raised, susceptance_of, susceptance_in}
 use Rattle.ucte_reader.specs.Regulations.{type_in, step_in, tap_in, angle_in, is_symmetrical, known_step, known_angle, half_turn, setting_checks}
-use Rattle.ucte_reader.specs.Facts.{Names, value_at}
+use Rattle.ucte_reader.specs.Facts.{Names}
 use Rattle.ucte_reader.specs.declared.block.ZoneCode.{ZoneCode}
 use Rattle.ucte_reader.specs.declared.block.Form.{Form}
 use Rattle.ucte_reader.specs.declared.status.Status.{Status}

@@ -11,8 +11,8 @@ use crate::electrical::read_electrical;
 use crate::kind::{GridKind, LineError};
 use crate::known::{Known, place, shift};
 use crate::status::{Status, is_in_operation, kind_of, status_of};
-use crate::tables::NameTable;
 use fb_types::{Branch, Text};
+use name_tables::NameTable;
 use std::alloc::Global;
 use ucte_lines::fields::field;
 

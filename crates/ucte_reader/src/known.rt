@@ -1,10 +1,10 @@
 //! What the lines of a whole file are judged by.
 
 ghost use Rattle.std.specs.Prelude.{◌≡◌, option_map};
-ghost use Rattle.ucte_reader.specs.Facts.{value_at};
+ghost use Rattle.name_tables.specs.Names.{value_at};
 ghost use Rattle.ucte_reader.specs.Steps.{names_in, capped, shift_in};
 
-use crate::tables::{NameTable, ValueTable};
+use name_tables::{NameTable, ValueTable};
 
 /// The nodes' codes with their places, the transformers' ids, and the regulations' ids with their phase shifts.
 #[derive(Drop)]

@@ -3,7 +3,7 @@
 
 ghost use Rattle.std.specs.Prelude.{◌≡◌, ◌<◌, ℕ, length};
 ghost use Rattle.fb_types.specs.GridRanges.{AreBranches};
-ghost use Rattle.ucte_reader.specs.FirstFault.{HasNoFault};
+ghost use Rattle.first_fault.specs.FirstFault.{HasNoFault};
 ghost use Rattle.ucte_reader.specs.Facts.{nodes_of};
 ghost use Rattle.ucte_reader.specs.File.{file_of, fault_among, IsGridFault, Reads, IsFault, IsGrid};
 ghost use Rattle.ucte_reader.specs.Passes.{IsDraft};
@@ -19,7 +19,6 @@ mod passes;
 mod regulations;
 mod status;
 mod survey;
-mod tables;
 
 use fb_types::{Grid, Items};
 pub use kind::{GridError, GridKind};

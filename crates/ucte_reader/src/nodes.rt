@@ -8,8 +8,8 @@ ghost use Rattle.ucte_reader.specs.Steps.{Makes, power_fault, node_field_fault, 
 use crate::block::ZoneCode;
 use crate::codes::{code_text, is_code, level_of};
 use crate::kind::{GridKind, LineError};
-use crate::tables::NameTable;
 use fb_types::{Node, Text};
+use name_tables::NameTable;
 use std::alloc::{AllocError, Global};
 use ucte_lines::fields::{field, number_or_zero, text_of};
 

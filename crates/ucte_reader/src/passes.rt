@@ -15,7 +15,7 @@ use crate::kind::{GridError, GridKind, LineError};
 use crate::known::Known;
 use crate::nodes::Nodes;
 use crate::regulations::judge_regulation;
-use crate::tables::NameTable;
+use name_tables::NameTable;
 use std::alloc::Global;
 use ucte_lines::lines::{is_blank_line, is_heading, key, split_line, without_return};
 

@@ -8,7 +8,7 @@ ghost use Rattle.ucte_reader.specs.Steps.{Makes, Judges, judged_angle, setting_n
 use crate::codes::{id_text, is_code};
 use crate::kind::{GridKind, LineError};
 use crate::known::{Known, is_transformer};
-use crate::tables::NameTable;
+use name_tables::NameTable;
 use phase_rule::{Regulation, shift};
 use std::alloc::{AllocError, Global};
 use ucte_lines::fields::{field, number, number_or_zero};

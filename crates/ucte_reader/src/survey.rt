@@ -1,19 +1,20 @@
 //! The first pass over a file: what its lines are judged by.
 
 ghost use Rattle.std.specs.Prelude.{◌≡◌, ◌+◌, ◌-◌, ◌<◌, ◌^◌, [], ◌∷◌, length, IfOk, OnOk, IsTrue, string_bytes};
+ghost use Rattle.name_tables.specs.Names.{numbered_from};
+ghost use Rattle.name_tables.specs.Tables.{with_entry, with_names, with_entries};
 ghost use Rattle.ucte_lines.specs.Lines.{is_heading as begins_with_marks};
 ghost use Rattle.std.specs.Option.{option_to_list};
 ghost use Rattle.ucte_reader.specs.Blocks.{placed, block_after};
 ghost use Rattle.ucte_reader.specs.Nodes.{codes_of};
-ghost use Rattle.ucte_reader.specs.Facts.{node_in, transformer_in, regulation_in, numbered_from};
-ghost use Rattle.ucte_reader.specs.Tables.{with_entry, with_names, with_entries};
+ghost use Rattle.ucte_reader.specs.Facts.{node_in, transformer_in, regulation_in};
 ghost use Rattle.ucte_reader.specs.Passes.{IsKnown};
 
 use crate::block::{Block, Form, opened};
 use crate::codes::{code_text, id_text};
 use crate::known::Known;
 use crate::regulations::shift_or_zero;
-use crate::tables::{NameTable, ValueTable};
+use name_tables::{NameTable, ValueTable};
 use std::alloc::{AllocError, Global};
 use ucte_lines::fields::field;
 use ucte_lines::lines::{is_blank_line, is_heading, key, split_line, without_return};

@@ -3,7 +3,8 @@ use Rattle.std.specs.Prelude.{string_bytes}
 use Rattle.std.proofs.lemmas.Bool.{not-true}
 use Rattle.std.proofs.lemmas.Result.{err_from_is_err_and}
 use Rattle.fb_types.specs.declared.grid.Branch.{Branch}
-use Rattle.ucte_reader.specs.Codes.{id_text, is_among}
+use Rattle.name_tables.specs.Names.{is_among}
+use Rattle.ucte_reader.specs.Codes.{id_text}
 use Rattle.ucte_reader.specs.Branches.{status_in, status_at, branch_of}
 use Rattle.ucte_reader.specs.Steps.{electrical_fault, joined_fault, branch_limit_fault, branch_ids, place_in, shift_in}
 use Rattle.ucte_reader.proofs.CheckLaws.{judged_front, judged_back}

@@ -3,7 +3,8 @@ use Rattle.std.specs.Prelude.{string_bytes}
 use Rattle.std.proofs.lemmas.Bool.{not-true}
 use Rattle.std.proofs.lemmas.Result.{err_from_is_err_and}
 use Rattle.fb_types.specs.declared.grid.Node.{Node}
-use Rattle.ucte_reader.specs.Codes.{first_code, is_code, code_text, is_among}
+use Rattle.name_tables.specs.Names.{is_among}
+use Rattle.ucte_reader.specs.Codes.{first_code, is_code, code_text}
 use Rattle.ucte_reader.specs.Nodes.{node_of, codes_of, node_fault}
 use Rattle.ucte_reader.specs.Steps.{Judges, node_field_fault, node_limit_fault, IsNodeOf}
 use Rattle.ucte_reader.proofs.CheckLaws.{judged_front, judged_back}

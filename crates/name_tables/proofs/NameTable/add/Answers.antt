@@ -1,9 +1,9 @@
 use Rattle.std.proofs.Common.{List, ℕ, not, map, sym, ap, ◌∙◌}
 use Rattle.std.specs.Prelude.{string_bytes}
-use Rattle.ucte_reader.specs.Codes.{is_among}
-use Rattle.ucte_reader.specs.Tables.{with_name}
-use Rattle.ucte_reader.proofs.TableLaws.{is_among-map, names-insert_key}
-use Rattle.ucte_reader.proofs.tables.NameTable.add.Goals as goal
+use Rattle.name_tables.specs.Names.{is_among}
+use Rattle.name_tables.specs.Tables.{with_name}
+use Rattle.name_tables.proofs.TableLaws.{is_among-map, names-insert_key}
+use Rattle.name_tables.proofs.NameTable.add.Goals as goal
 
 pub returns-clause-added : goal.returns-clause-added
 returns-clause-added c =

@@ -9,9 +9,9 @@ use Rattle.std.specs.String.{string_eq}
 use Rattle.std.proofs.lemmas.List.{map_push}
 use Rattle.indexmap.specs.IndexMap.{insert_entry}
 use Rattle.indexmap.specs.IndexSet.{insert_key}
-use Rattle.ucte_reader.specs.Codes.{is_among}
-use Rattle.ucte_reader.specs.Facts.{value_at}
-use Rattle.ucte_reader.specs.Tables.{with_name, with_entry}
+use Rattle.name_tables.specs.Names.{is_among}
+use Rattle.name_tables.specs.Names.{value_at}
+use Rattle.name_tables.specs.Tables.{with_name, with_entry}
 
 -- ---- sets
 

@@ -1,7 +1,7 @@
 use Rattle.std.proofs.Common.{sym, ap, ◌∙◌}
-use Rattle.ucte_reader.specs.Facts.{value_at}
-use Rattle.ucte_reader.proofs.TableLaws.{value_at-named}
-use Rattle.ucte_reader.proofs.tables.ValueTable.get.Goals as goal
+use Rattle.name_tables.specs.Names.{value_at}
+use Rattle.name_tables.proofs.TableLaws.{value_at-named}
+use Rattle.name_tables.proofs.ValueTable.get.Goals as goal
 
 pub returns : goal.returns
 returns g c =

@@ -1,7 +1,7 @@
--- Tables of names. Nobody need believe these words: the contracts that cite them are private.
+-- Tables of names, after one more entry.
 use Rattle.std.specs.Prelude.{ℕ, List, [], ◌∷◌, ◌++◌, is_some, if◌then◌else◌}
-use Rattle.ucte_reader.specs.Codes.{is_among}
-use Rattle.ucte_reader.specs.Facts.{value_at}
+use Rattle.name_tables.specs.Names.{is_among}
+use Rattle.name_tables.specs.Names.{value_at}
 
 -- the names with one more, each once
 abbrev pub with_name : List (List ℕ) → List ℕ → List (List ℕ)

@@ -1,9 +1,9 @@
-//! Tables of names.
+//! Tables of names, looked up by hashes: names each once, and names with a value each.
+#![tactic(auto)]
 
 ghost use Rattle.std.specs.Prelude.{◌≡◌, [], not, IfOk, OnOk, string_bytes};
-ghost use Rattle.ucte_reader.specs.Codes.{is_among};
-ghost use Rattle.ucte_reader.specs.Facts.{value_at};
-ghost use Rattle.ucte_reader.specs.Tables.{with_name, with_entry};
+ghost use Rattle.name_tables.specs.Names.{is_among, value_at};
+ghost use Rattle.name_tables.specs.Tables.{with_name, with_entry};
 
 use indexmap::{IndexMap, IndexSet};
 use std::alloc::{AllocError, Global};
@@ -24,6 +24,7 @@ impl Model for NameTable {
 }
 
 impl NameTable {
+    /// A table without names. It takes no memory.
     pub fn new(alloc: Global) -> Self
         ensures { result ≡ [] }
     {
@@ -32,6 +33,7 @@ impl NameTable {
         }
     }
 
+    /// Whether the table has the name.
     pub fn contains(&self, name: &str) -> bool
         ensures { result ≡ is_among self.now name.now }
     {
@@ -62,6 +64,7 @@ impl<V: Copy + Drop> Model for ValueTable<V> {
 }
 
 impl<V: Copy + Drop> ValueTable<V> {
+    /// A table without names. It takes no memory.
     pub fn new(alloc: Global) -> Self
         ensures { result ≡ [] }
     {
@@ -70,6 +73,7 @@ impl<V: Copy + Drop> ValueTable<V> {
         }
     }
 
+    /// The value of a name, if it has one.
     pub fn get(&self, name: &str) -> Option<V>
         ensures { result ≡ value_at self.now name.now }
     {

@@ -1,6 +1,6 @@
 -- The first fault of a list: from item to item, and that there is but one.
 use Rattle.std.proofs.Common.{◌≡◌, ℕ, ◌+◌, ◌⊎◌, inl, inr, List, [], ◌∷◌, ◌++◌, length, Option, Some, None, refl, sym, ap, subst, ◌∙◌}
-use Rattle.ucte_reader.specs.FirstFault.{IsFirstFault, HasNoFault}
+use Rattle.first_fault.specs.FirstFault.{IsFirstFault, HasNoFault}
 
 no_end : {I : Type 0} (front : List I) (item : I) (rest : List I) → (let none : List I = [] in none ≡ front ++ item ∷ rest) → ⊥
 no_end [] item rest e = cc

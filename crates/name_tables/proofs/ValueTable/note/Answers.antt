@@ -1,9 +1,9 @@
 use Rattle.std.proofs.Common.{◌≡◌, List, ℕ, false, sym, ap, ◌∙◌}
 use Rattle.std.specs.Prelude.{string_bytes, is_some}
-use Rattle.ucte_reader.specs.Facts.{value_at}
-use Rattle.ucte_reader.specs.Tables.{with_entry}
-use Rattle.ucte_reader.proofs.TableLaws.{named, noted_entry, with_entry-known}
-use Rattle.ucte_reader.proofs.tables.ValueTable.note.Goals as goal
+use Rattle.name_tables.specs.Names.{value_at}
+use Rattle.name_tables.specs.Tables.{with_entry}
+use Rattle.name_tables.proofs.TableLaws.{named, noted_entry, with_entry-known}
+use Rattle.name_tables.proofs.ValueTable.note.Goals as goal
 
 pub returns-then-is_some : goal.returns-then-is_some
 returns-then-is_some g c =

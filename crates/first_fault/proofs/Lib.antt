@@ -1,0 +1,2 @@
+pub mod FirstFaultLaws
+pub mod CheckLaws
