@@ -1,0 +1,4 @@
+pub mod Numbers
+pub mod Markings
+pub mod Listed
+pub mod Trees
