@@ -1,11 +1,14 @@
-//! Tables of names, looked up by hashes: names each once, and names with a value each.
+//! Tables of names, looked up by hashes: names each once, and names with a value each. Names padded to a width.
 #![tactic(auto)]
 
 ghost use Rattle.std.specs.Prelude.{◌≡◌, [], not, IfOk, OnOk, string_bytes};
 ghost use Rattle.name_tables.specs.Names.{is_among, value_at};
 ghost use Rattle.name_tables.specs.Tables.{with_name, with_entry};
 
+mod padding;
+
 use indexmap::{IndexMap, IndexSet};
+pub use padding::padded;
 use std::alloc::{AllocError, Global};
 use std::marker::Model;
 
