@@ -1,0 +1,4 @@
+pub mod Corners
+pub mod Loops
+pub mod Sizes
+pub mod Inclusions
