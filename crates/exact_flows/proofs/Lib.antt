@@ -1,0 +1,4 @@
+pub mod Listed
+pub mod Solutions
+pub mod Points
+pub mod Assembly
