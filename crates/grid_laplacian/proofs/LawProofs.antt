@@ -98,7 +98,7 @@ uniqueness_holds state sound p t t' d d' flow flow' i h =
     uniqueness (classes_of state) (weight state) (is_free state) (grounded state sound) (at p) (at t) (at t') d d' (solves_of state sound p t d flow) (solves_of state sound p t' d' flow') i h
 
 -- ---- cut
-part_of_weight : (es : List Edge) (k : ℕ) (e : Edge) → k < length es → (get_or es k e).b ≤ weight_to es (get_or es k e).to
+pub part_of_weight : (es : List Edge) (k : ℕ) (e : Edge) → k < length es → (get_or es k e).b ≤ weight_to es (get_or es k e).to
 part_of_weight [] k d h = absurd (omega arith)
 part_of_weight (e ∷ es) zero d h = let one = cond-true {A = ℕ} (eqb e.to e.to) e.b 0 (eq-eqb e.to e.to refl) in omega arith
 part_of_weight (e ∷ es) (suc k) d h = let rest = part_of_weight es k d (omega arith) in omega arith
@@ -133,7 +133,7 @@ total_first : (n : ℕ) (f : ℕ → ℕ) → total_below (suc n) f ≡ f 0 + to
 total_first zero f = omega arith
 total_first (suc n) f = let rest = total_first n f in omega arith
 
-total_of_list : {X : Type 0} (f : X → ℕ) (xs : List X) (d : X) → total_below (length xs) (λ i. f (get_or xs i d)) ≡ sum_by f xs
+pub total_of_list : {X : Type 0} (f : X → ℕ) (xs : List X) (d : X) → total_below (length xs) (λ i. f (get_or xs i d)) ≡ sum_by f xs
 total_of_list f [] d = refl
 total_of_list f (x ∷ xs) d = total_first (length xs) (λ i. f (get_or (x ∷ xs) i d)) ∙ ap (λ k. f x + k) (total_of_list f xs d) ∙ sym (sum_by-cons f x xs)
 

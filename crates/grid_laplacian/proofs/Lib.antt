@@ -1,9 +1,13 @@
 pub mod Angle
 pub mod Bridge
+pub mod Crossings
 pub mod Cut
 pub mod Drained
+pub mod Enclosure
 pub mod Existence
 pub mod LawProofs
 pub mod Maximum
 pub mod PartialSums
+pub mod Shifts
+pub mod SizeLoops
 pub mod Uniqueness

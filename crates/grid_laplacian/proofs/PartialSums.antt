@@ -143,7 +143,7 @@ size_scaled s g m z le h =
     let e = abs-mul g z in
     less_times s g m z le (omega arith)
 
-le_greatest : (n : ℕ) (f : ℕ → ℕ) (k : ℕ) → k < n → f k ≤ greatest_below n f
+pub le_greatest : (n : ℕ) (f : ℕ → ℕ) (k : ℕ) → k < n → f k ≤ greatest_below n f
 le_greatest zero f k h = absurd (omega arith)
 le_greatest (suc n) f k h =
     let one = le-max_left (greatest_below n f) (f n) in

@@ -1,6 +1,7 @@
 -- Sizes of a state, over its live classes: the least and the greatest susceptances, and what is fed in.
-use Rattle.std.specs.Prelude.{◌≡◌, ℕ, zero, suc, ◌<◌, ◌≤◌, max, if◌then◌else◌, List, All, Any, ℤ, unsigned_abs}
+use Rattle.std.specs.Prelude.{◌≡◌, ℕ, zero, suc, ◌<◌, ◌≤◌, min, max, if◌then◌else◌, List, [], ◌∷◌, All, Any, sum_by, ℤ, unsigned_abs}
 use Rattle.whole_laws.specs.Sums.{total_below, at}
+use Rattle.grid_state.specs.declared.types.Edge.{Edge}
 use Rattle.grid_state.specs.GridState.{GridState, classes_of, is_free, row_of, susceptance_of}
 
 -- the greatest of f at 0, 1, .., n - 1, and 0 where there is none
@@ -34,3 +35,21 @@ pub record IsLeastSusceptance (s : GridState) (b : ℕ) : Type 0 where
 -- the sum of |p| over the live classes but the slack's
 abbrev pub supply_of : GridState → List ℤ → ℕ
 supply_of s p = total_below (classes_of s) (λ i. if is_free s i then unsigned_abs (at p i) else 0)
+
+-- the least of 10^11 and the susceptances of a row. No susceptance is above 10^11
+abbrev pub least_over : List Edge → ℕ
+least_over [] = 100000000000
+least_over (e ∷ es) = min e.b (least_over es)
+
+-- the least of 10^11 and f at 0, 1, .., n - 1
+abbrev pub least_below : ℕ → (ℕ → ℕ) → ℕ
+least_below zero f = 100000000000
+least_below (suc n) f = min (least_below n f) (f n)
+
+-- the least susceptance of the carrying branches between two classes; where there is none, 10^11
+abbrev pub least_susceptance_of : GridState → ℕ
+least_susceptance_of s = least_below (classes_of s) (λ i. least_over (row_of s i))
+
+-- the sum of the sizes of all numbers of a list
+abbrev pub size_of : List ℤ → ℕ
+size_of p = sum_by unsigned_abs p

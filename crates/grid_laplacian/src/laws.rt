@@ -2,6 +2,7 @@
 //! law, for this state and for all lists of whole numbers.
 
 ghost use Rattle.grid_laplacian.specs.Laws.{Maximum, Existence, Uniqueness, Cut, Angle};
+ghost use Rattle.grid_laplacian.specs.Enclosures.{Containment};
 
 use grid_state::State;
 
@@ -37,6 +38,14 @@ pub fn cut(state: &State)
 /// No angle is larger than the number of live classes times that sum, over the least susceptance.
 pub fn angle(state: &State)
     ensures { Angle state.now }
+{
+    state.sound();
+}
+
+/// A barrier and an enclosed column, wherever they come from, hold each exact angle of the column: with the barrier v and the
+/// column's w and kappa, it lies from w - kappa·v to w + kappa·v.
+pub fn containment(state: &State)
+    ensures { Containment state.now }
 {
     state.sound();
 }

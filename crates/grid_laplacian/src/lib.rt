@@ -3,9 +3,13 @@
 #![tactic(auto)]
 
 pub mod laws;
+mod range;
 mod residual;
+mod sizes;
 
-pub use residual::residual_at;
+pub use range::{range_ok, reach};
+pub use residual::{residual_at, residual_of};
+pub use sizes::is_free;
 
 #[cfg(test)]
 mod tests;

@@ -36,7 +36,7 @@ fn less_drops(row: &[Edge], w: &[i128], start: i128, here: i128) -> i128
 ///
 /// Both lists have one number for each class. All sums stay within 128 bits, since each number of `p`, and each number of `w`
 /// times the greatest susceptance of a class, is within ±2^121.
-pub fn residual_at(state: &State, p: &Items<i128>, w: &Items<i128>, class: u32) -> i128
+pub fn residual_of(state: &State, p: &[i128], w: &[i128], class: u32) -> i128
     requires class { class < classes_of state.now }
     requires live_and_not_slack { is_free state.now class ≡ true }
     requires p_length { length p.now ≡ classes_of state.now }
@@ -46,11 +46,18 @@ pub fn residual_at(state: &State, p: &Items<i128>, w: &Items<i128>, class: u32) 
     ensures { result ≡ at p.now class -ℤ laplacian_at state.now w.now class }
 {
     state.sound();
-    let w = w.as_slice();
-    less_drops(
-        state.row(class),
-        w,
-        p.as_slice()[class as usize],
-        w[class as usize],
-    )
+    less_drops(state.row(class), w, p[class as usize], w[class as usize])
+}
+
+/// The same of lists that are owned.
+pub fn residual_at(state: &State, p: &Items<i128>, w: &Items<i128>, class: u32) -> i128
+    requires class { class < classes_of state.now }
+    requires live_and_not_slack { is_free state.now class ≡ true }
+    requires p_length { length p.now ≡ classes_of state.now }
+    requires w_length { length w.now ≡ classes_of state.now }
+    requires p_small { All (λ z. IsWithin (2 ^ 121) z) p.now }
+    requires w_small { All (λ z. IsWithin (2 ^ 121) (pos (greatest_susceptance_of state.now) *ℤ z)) w.now }
+    ensures { result ≡ at p.now class -ℤ laplacian_at state.now w.now class }
+{
+    residual_of(state, p.as_slice(), w.as_slice(), class)
 }
