@@ -110,7 +110,7 @@ counted s h =
 pub positive_crosses : (s : GridState) → 0 < greatest_susceptance_of s → HasCrossing s
 positive_crosses s h = let c = counted s h in record { class = c.class; class_below = c.class_below; some = some_in_row (row_of s c.class) c.some }
 
-least_below-le : (n : ℕ) (f : ℕ → ℕ) (k : ℕ) → k < n → least_below n f ≤ f k
+pub least_below-le : (n : ℕ) (f : ℕ → ℕ) (k : ℕ) → k < n → least_below n f ≤ f k
 least_below-le zero f k h = absurd (omega arith)
 least_below-le (suc n) f k h =
     elim (cases_eq k n) [

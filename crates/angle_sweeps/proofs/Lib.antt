@@ -1,0 +1,5 @@
+pub mod Raised
+pub mod Room
+pub mod Round
+pub mod Start
+pub mod Step
