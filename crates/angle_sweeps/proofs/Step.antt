@@ -12,7 +12,8 @@ use Rattle.grid_laplacian.proofs.Crossings.{susceptance_positive, susceptance-le
 use Rattle.angle_sweeps.specs.Sweeps.{IsUnder}
 use Rattle.angle_sweeps.specs.Rounds.{IsRightSide}
 use Rattle.angle_sweeps.proofs.Raised.{step_under, raised_at}
-use Rattle.angle_sweeps.proofs.Room.{under_small, within_scaled, right_side_small}
+use Rattle.grid_laplacian.proofs.SizeCondition.{within_scaled, right_side_small}
+use Rattle.angle_sweeps.proofs.Room.{under_small}
 
 -- by how much w rises at a class
 abbrev pub steps : GridState → List ℤ → List ℤ → ℕ → ℕ

@@ -91,13 +91,13 @@ some_below (suc n) f h =
     ]
 
 -- a class whose susceptance is counted
-record Counted (s : GridState) : Type 0 where
-  class : ℕ
-  class_below : class < classes_of s
-  free : is_free s class ≡ true
-  some : 0 < susceptance_of s class
+pub record Counted (s : GridState) : Type 0 where
+  pub class : ℕ
+  pub class_below : class < classes_of s
+  pub free : is_free s class ≡ true
+  pub some : 0 < susceptance_of s class
 
-counted : (s : GridState) → 0 < greatest_susceptance_of s → Counted s
+pub counted : (s : GridState) → 0 < greatest_susceptance_of s → Counted s
 counted s h =
     let found = some_below (classes_of s) (free_susceptance_of s) h in
     let i = found.0 in
@@ -122,11 +122,16 @@ least_over-le : (es : List Edge) → 0 < susceptance_over es → least_over es �
 least_over-le [] h = absurd (omega arith)
 least_over-le (e ∷ es) h = omega arith
 
+pub least-le-susceptance : (s : GridState) (i : ℕ) → i < classes_of s → 0 < susceptance_of s i → least_susceptance_of s ≤ susceptance_of s i
+least-le-susceptance s i h some =
+    let one = least_below-le (classes_of s) (λ j. least_over (row_of s j)) i h in
+    let two = least_over-le (row_of s i) some in
+    omega arith
+
 -- the least susceptance of a branch is at most the greatest of a class
 pub least-le-greatest : (s : GridState) → 0 < greatest_susceptance_of s → least_susceptance_of s ≤ greatest_susceptance_of s
 least-le-greatest s h =
     let c = counted s h in
-    let one = least_below-le (classes_of s) (λ i. least_over (row_of s i)) c.class c.class_below in
-    let two = least_over-le (row_of s c.class) c.some in
-    let three = susceptance-le-greatest s c.class c.class_below c.free in
+    let least = least-le-susceptance s c.class c.class_below c.some in
+    let most = susceptance-le-greatest s c.class c.class_below c.free in
     omega arith

@@ -14,7 +14,7 @@ use Rattle.grid_laplacian.proofs.Existence.{solution}
 use Rattle.grid_laplacian.proofs.Angle.{angle, free_count}
 use Rattle.grid_laplacian.proofs.Cut.{supply, SolvesTable-neg, laplacian-neg}
 use Rattle.grid_laplacian.proofs.Bridge.{grounded, laplacian_is}
-use Rattle.grid_laplacian.proofs.LawProofs.{solves_of}
+use Rattle.grid_laplacian.proofs.LawProofs.{solves_of, existence_holds}
 
 pub scaled : (d : ℕ) (x y : ℤ) → x ≤ℤ y → (pos d *ℤ x) ≤ℤ (pos d *ℤ y)
 scaled d x y h = scale-≤ (pos d) x y (omega (arith, ints)) h
@@ -106,8 +106,8 @@ contains_high n w free grounded p t d solved s v x k barrier edge_v near edge_x 
         let parts = *ℤ-sub d (pos 0) (x +ℤ y) in
         omega (arith, ints)
 
-pub containment_holds : (s : GridState) → IsSound s → Containment s
-containment_holds s sound v p t angles total d barrier encloses solves =
+pub angles_lie : (s : GridState) → IsSound s → (v p t : List ℤ) (angles : Angles) (total d : ℕ) → IsBarrier s v → EnclosesWithin s total p angles → Solves s p t d → AnglesLie s v angles t d
+angles_lie s sound v p t angles total d barrier encloses solves =
     let n = classes_of s in
     let solved = solves_of s sound p t d solves in
     let k = angles.kappa in
@@ -121,3 +121,9 @@ containment_holds s sound v p t angles total d barrier encloses solves =
           (λ j b is. rw (laplacian_is s sound angles.w j b) (let e = encloses.near j b is in omega (arith, ints)))
           (λ j b u. let e = encloses.fixed j b u in omega (arith, ints));
     }
+
+pub containment_holds : (s : GridState) → IsSound s → Containment s
+containment_holds s sound v p angles total barrier encloses = record {
+  some = existence_holds s sound p;
+  each = λ t d solves. angles_lie s sound v p t angles total d barrier encloses solves;
+}

@@ -9,5 +9,6 @@ pub mod LawProofs
 pub mod Maximum
 pub mod PartialSums
 pub mod Shifts
+pub mod SizeCondition
 pub mod SizeLoops
 pub mod Uniqueness

@@ -48,6 +48,11 @@ pub record AnglesLie (s : GridState) (v : List ℤ) (angles : Angles) (t : List 
   pub above : (i : ℕ) → i < classes_of s → (pos d *ℤ (angle_span_of v angles i).0) ≤ℤ at t i
   pub below : (i : ℕ) → i < classes_of s → at t i ≤ℤ (pos d *ℤ (angle_span_of v angles i).1)
 
+-- p makes angles, and the spans hold them, however they are written
+pub record HoldsAngles (s : GridState) (v p : List ℤ) (angles : Angles) : Type 0 where
+  pub some : (t : List ℤ) × (d : ℕ) × Solves s p t d
+  pub each : (t : List ℤ) (d : ℕ) → Solves s p t d → AnglesLie s v angles t d
+
 -- a barrier and an enclosed column, wherever they come from, hold the exact angles of the column
 abbrev pub Containment : GridState → Type 0
-Containment s = (v p t : List ℤ) (angles : Angles) (total d : ℕ) → IsBarrier s v → EnclosesWithin s total p angles → Solves s p t d → AnglesLie s v angles t d
+Containment s = (v p : List ℤ) (angles : Angles) (total : ℕ) → IsBarrier s v → EnclosesWithin s total p angles → HoldsAngles s v p angles
