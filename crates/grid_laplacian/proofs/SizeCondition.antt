@@ -1,5 +1,5 @@
 -- What the size condition gives: where a carrying branch joins two classes, right sides, angles and barriers stay small.
-use Rattle.std.proofs.Common.{◌≡◌, ℕ, zero, suc, ◌+◌, ◌-◌, ◌*◌, ◌/◌, ◌%◌, ◌^◌, ◌<◌, ◌≤◌, max, Bool, true, false, cond, List, [], ◌∷◌, length, get_or, All, ℤ, pos, negsuc, ◌+ℤ◌, ◌-ℤ◌, ◌*ℤ◌, nat_abs, ◌≤ℤ◌, arith, mul-le-mul_left, mul-le-mul_right, le_of_mul-le-mul_right, div-mul-le_self, div-add-mod', ap, FitsSigned, inl, inr}
+use Rattle.std.proofs.Common.{◌≡◌, ℕ, zero, suc, ◌+◌, ◌-◌, ◌*◌, ◌/◌, ◌%◌, ◌^◌, ◌<◌, ◌≤◌, max, Bool, true, false, cond, List, [], ◌∷◌, length, get_or, All, ℤ, pos, negsuc, ◌+ℤ◌, ◌-ℤ◌, ◌*ℤ◌, nat_abs, ◌≤ℤ◌, arith, mul-le-mul_left, mul-le-mul_right, le_of_mul-le-mul_right, div-mul-le_self, div-add-mod', ap, FitsSigned, ◌⊎◌, inl, inr}
 use Rattle.std.proofs.lemmas.Int.{ints, unsigned_abs-mul, fits_signed_from_abs}
 use Rattle.std.proofs.lemmas.Bool.{cases_Bool, cond-true, cond-false}
 use Rattle.std.proofs.lemmas.List.Elements.{All-get_or, All-from_get_or, All-weaker}
@@ -153,3 +153,36 @@ barrier_small s sound total room cross z high in_reach =
 
     fewer : (x : ℕ) → x - 1 ≤ x
     fewer x = omega arith
+
+-- the ends of the spans of angles fit
+pub ends_fit : (s : GridState) → IsSound s → (total : ℕ) → HasRoomFor s total → (v p : List ℤ) (angles : Angles) → IsBarrier s v → EnclosesWithin s total p angles → (i : ℕ) → i < classes_of s
+    → FitsSigned w128 (angle_span_of v angles i).0 × FitsSigned w128 (angle_span_of v angles i).1
+ends_fit s sound total room v p angles barrier encloses i h =
+    let small = sizes (cases_Bool (is_free s i)) in
+    two_ends angles.kappa (at angles.w i) (at v i) encloses.at_most_one small.0 small.1
+  where
+    size : (g : ℕ) (z : ℤ) → 0 < g → g * nat_abs z ≤ 2 ^ 121 → nat_abs z ≤ 2 ^ 121
+    size g z some le = let one = mul-le-mul_right (nat_abs z) some in omega arith
+
+    sizes : ((is_free s i ≡ true) ⊎ (is_free s i ≡ false)) → (nat_abs (at angles.w i) ≤ 2 ^ 121) × (nat_abs (at v i) ≤ 2 ^ 121)
+    sizes (inr held) = (let e = encloses.fixed i h held in omega (arith, ints), let e = barrier.fixed i h held in omega (arith, ints))
+    sizes (inl free_i) =
+        let cross = free_crosses s sound i h free_i in
+        let some = crossing_positive s sound cross in
+        let w_length = encloses.each_class in
+        let v_length = barrier.each_class in
+        let w_small = All-get_or (λ z. least_susceptance_of s * nat_abs z ≤ 2 * live_count s * greater_total_of s total) angles.w i (pos 0) (omega arith) encloses.small in
+        let high = All-get_or (λ z. pos 0 ≤ℤ z) v i (pos 0) (omega arith) barrier.nonnegative in
+        let in_reach = All-get_or (λ z. z ≤ℤ pos (2 * reach_of s)) v i (pos 0) (omega arith) barrier.in_reach in (
+          size (greatest_susceptance_of s) (at angles.w i) some (enclosed_small s sound total room cross (at angles.w i) w_small),
+          size (greatest_susceptance_of s) (at v i) some (barrier_small s sound total room cross (at v i) high in_reach),
+        )
+
+    two_ends : (k : ℕ) (w v : ℤ) → k ≤ 1 → nat_abs w ≤ 2 ^ 121 → nat_abs v ≤ 2 ^ 121 → FitsSigned w128 (w -ℤ pos k *ℤ v) × FitsSigned w128 (w +ℤ pos k *ℤ v)
+    two_ends zero w v le hw hv =
+        let none : pos 0 *ℤ v ≡ pos 0 = omega (arith, ints) in
+        (rw none (fits_signed_from_abs w128 (w -ℤ pos 0) (omega (arith, ints))), rw none (fits_signed_from_abs w128 (w +ℤ pos 0) (omega (arith, ints))))
+    two_ends (suc zero) w v le hw hv =
+        let one : pos 1 *ℤ v ≡ v = omega (arith, ints) in
+        (rw one (fits_signed_from_abs w128 (w -ℤ v) (omega (arith, ints))), rw one (fits_signed_from_abs w128 (w +ℤ v) (omega (arith, ints))))
+    two_ends (suc (suc k)) w v le hw hv = absurd (omega arith)
