@@ -1,7 +1,7 @@
 -- Right sides that are swept.
-use Rattle.std.proofs.Common.{◌≡◌, ℕ, zero, suc, ◌+◌, ◌*◌, ◌^◌, ◌<◌, ◌≤◌, ◌⊎◌, inl, inr, max, Bool, true, false, cond, List, [], ◌∷◌, ◌++◌, length, length-append, below_more, All, ℤ, pos, negsuc, ◌≤ℤ◌, nat_abs, arith, sym, ap, subst, ◌∙◌}
+use Rattle.std.proofs.Common.{◌≡◌, ℕ, ◌+◌, ◌*◌, ◌<◌, ◌≤◌, Bool, true, false, cond, List, [], ◌∷◌, ◌++◌, length, length-append, below_more, All, ℤ, pos, negsuc, ◌≤ℤ◌, nat_abs, arith, sym, ap, subst, ◌∙◌}
 use Rattle.std.proofs.lemmas.Int.{ints}
-use Rattle.std.proofs.lemmas.Bool.{cases_Bool, cond-true, cond-false}
+use Rattle.std.proofs.lemmas.Bool.{cond-true}
 use Rattle.std.proofs.lemmas.List.{get_or_append_left, get_or_at}
 use Rattle.std.proofs.lemmas.List.Elements.{All-from_get_or}
 use Rattle.whole_laws.specs.Sums.{total_below, at}
@@ -9,7 +9,7 @@ use Rattle.whole_laws.specs.TotalLaws.{total_below-le, total_below-combine}
 use Rattle.grid_state.specs.GridState.{GridState, is_free, classes_of, susceptance_of}
 use Rattle.grid_laplacian.specs.Sizes.{free_susceptance_of, total_susceptance_of, size_of}
 use Rattle.grid_laplacian.proofs.LawProofs.{total_of_list}
-use Rattle.angle_bounds.specs.RightSides.{above_zero, below_zero, free_value, doubled, part_above, part_below, IsMade}
+use Rattle.angle_bounds.specs.RightSides.{above_zero, below_zero, free_value, doubled, IsMade}
 
 -- one number more
 pub made_more : (s : GridState) (f : ℕ → ℤ) (q : List ℤ) (n : ℕ) (x : ℤ) → IsMade s f q n → x ≡ free_value s f n → IsMade s f (q ++ x ∷ []) (n + 1)

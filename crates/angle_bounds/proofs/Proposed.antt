@@ -1,12 +1,12 @@
 -- The difference of two sweeps may stand as angles.
-use Rattle.std.proofs.Common.{◌≡◌, ℕ, zero, suc, ◌+◌, ◌-◌, ◌*◌, ◌/◌, ◌%◌, ◌^◌, ◌<◌, ◌≤◌, ◌⊎◌, inl, inr, max, Bool, true, false, List, [], ◌∷◌, ◌++◌, length, length-append, below_more, All, ℤ, pos, negsuc, ◌+ℤ◌, ◌-ℤ◌, ◌*ℤ◌, nat_abs, ◌≤ℤ◌, ◌<ℤ◌, arith, mul-le-mul_left, div-add-mod', mod-lt, le_of_mul-le-mul_right, sym, ap, ◌∙◌, refl}
+use Rattle.std.proofs.Common.{◌≡◌, ℕ, ◌+◌, ◌-◌, ◌*◌, ◌/◌, ◌%◌, ◌^◌, ◌<◌, ◌≤◌, ◌⊎◌, inl, inr, max, true, List, [], ◌∷◌, ◌++◌, length, length-append, below_more, All, ℤ, pos, negsuc, ◌-ℤ◌, ◌*ℤ◌, nat_abs, ◌≤ℤ◌, arith, mul-le-mul_left, div-add-mod', mod-lt, le_of_mul-le-mul_right, ap, ◌∙◌, refl}
 use Rattle.std.proofs.lemmas.Int.{ints}
 use Rattle.std.proofs.lemmas.List.{get_or_append_left, get_or_at}
 use Rattle.std.proofs.lemmas.List.Elements.{All-head, All-tail, All-get_or, All-from_get_or, All-weaker}
 use Rattle.whole_laws.specs.Sums.{at, IsWithin}
 use Rattle.whole_laws.specs.Ring.{*ℤ-sub}
 use Rattle.grid_state.specs.declared.types.Edge.{Edge}
-use Rattle.grid_state.specs.GridState.{GridState, row_of, is_free, classes_of, live_count, susceptance_of, IsEdge, IsSound}
+use Rattle.grid_state.specs.GridState.{GridState, row_of, is_free, classes_of, live_count, IsEdge, IsSound}
 use Rattle.grid_laplacian.specs.Laws.{drop_over, laplacian_at}
 use Rattle.grid_laplacian.specs.Sizes.{least_susceptance_of, total_susceptance_of, greatest_susceptance_of, supply_of, size_of}
 use Rattle.grid_laplacian.specs.Ranges.{HasRoomFor, greater_total_of, reach_of}

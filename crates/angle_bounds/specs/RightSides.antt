@@ -1,6 +1,6 @@
 -- Words of private contracts: the right sides that are swept, and lists that are proposed as angles. Nobody need believe them:
 -- the contracts of `barrier` and `enclose` say what comes of them.
-use Rattle.std.specs.Prelude.{◌≡◌, ℕ, suc, ◌*◌, ◌<◌, ◌≤◌, true, false, if◌then◌else◌, List, length, All, ℤ, pos, negsuc, ◌-ℤ◌, unsigned_abs}
+use Rattle.std.specs.Prelude.{◌≡◌, ℕ, suc, ◌*◌, ◌<◌, ◌≤◌, false, if◌then◌else◌, List, length, All, ℤ, pos, negsuc, ◌-ℤ◌, unsigned_abs}
 use Rattle.whole_laws.specs.Sums.{at}
 use Rattle.grid_state.specs.GridState.{GridState, classes_of, is_free, live_count, susceptance_of}
 use Rattle.grid_laplacian.specs.Sizes.{least_susceptance_of, size_of}

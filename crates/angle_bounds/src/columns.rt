@@ -140,7 +140,11 @@ fn with_kappa(state: &State, p: &[i128], w: Items<i128>) -> Angles
     requires proposed { IsProposed state.now p.now w }
     ensures { EnclosesWithin state.now (size_of p.now) p.now result }
 {
-    let kappa = if is_exact(state, p, w.as_slice()) { 0 } else { 1 };
+    let kappa = if is_exact(state, p, w.as_slice()) {
+        0
+    } else {
+        1
+    };
     Angles { kappa, w }
 }
 

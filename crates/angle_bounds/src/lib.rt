@@ -9,3 +9,6 @@ mod spans;
 pub use barriers::barrier;
 pub use columns::enclose;
 pub use spans::angle_span;
+
+#[cfg(test)]
+mod tests;

@@ -4,7 +4,7 @@ use Rattle.std.proofs.lemmas.Int.{ints}
 use Rattle.std.proofs.lemmas.Bool.{cases_eq, cond-true, cond-false, eq-eqb, ne_eqb, both_ways}
 use borrow.Author.Differences.{up, down}
 use Rattle.std.proofs.lemmas.List.Elements.{All-head, All-tail, All-get_or, All-set}
-use Rattle.whole_laws.specs.Sums.{sum_below, total_below, at}
+use Rattle.whole_laws.specs.Sums.{total_below, at}
 use Rattle.whole_laws.specs.SumLaws.{sum_below-same, sum_below-low, sum_below-pos}
 use Rattle.whole_laws.specs.TotalLaws.{total_below-combine}
 use Rattle.grid_state.specs.declared.types.Edge.{Edge}

@@ -1,6 +1,6 @@
 -- Where a carrying branch joins two classes, a live class other than the slack's has a susceptance.
-use Rattle.std.proofs.Common.{◌≡◌, ℕ, zero, suc, ◌+◌, ◌*◌, ◌/◌, ◌<◌, ◌≤◌, ◌⊎◌, inl, inr, min, max, Bool, true, false, cond, eqb, not, List, [], ◌∷◌, length, get_or, All, arith, refl, sym, ap, subst, ◌∙◌}
-use Rattle.std.proofs.lemmas.Bool.{cases_eq, cases_Bool, both_ways, and_from, cond-true, cond-false, eq-eqb, eqb-true, not_from_false}
+use Rattle.std.proofs.Common.{◌≡◌, ℕ, zero, suc, ◌<◌, ◌≤◌, inl, inr, Bool, true, false, cond, eqb, not, List, [], ◌∷◌, length, get_or, All, arith, refl, sym, ap, subst, ◌∙◌}
+use Rattle.std.proofs.lemmas.Bool.{cases_eq, cases_Bool, and_from, cond-true, cond-false, eq-eqb, eqb-true, not_from_false}
 use Rattle.std.proofs.lemmas.List.Elements.{All-get_or}
 use Rattle.grid_state.specs.declared.types.Edge.{Edge}
 use Rattle.grid_state.specs.GridState.{GridState, row_of, weight_to, weight, classes_of, is_live, is_free, no_edge, susceptance_over, susceptance_of, IsEdge, IsSound}

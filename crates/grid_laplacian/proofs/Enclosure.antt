@@ -6,7 +6,7 @@ use Rattle.whole_laws.specs.Sums.{at}
 use Rattle.fb_types.specs.declared.rows.Angles.{Angles}
 use Rattle.grid_state.specs.GridState.{GridState, classes_of, weight, is_free, susceptance_of, IsSound}
 use Rattle.grid_laplacian.specs.Tables.{laplacian, IsGrounded, SolvesTable}
-use Rattle.grid_laplacian.specs.Laws.{laplacian_at, Solves}
+use Rattle.grid_laplacian.specs.Laws.{Solves}
 use Rattle.grid_laplacian.specs.Enclosures.{IsBarrier, EnclosesWithin, AnglesLie, Containment}
 use Rattle.grid_laplacian.proofs.Maximum.{maximum}
 use Rattle.grid_laplacian.proofs.Uniqueness.{laplacian-combine}

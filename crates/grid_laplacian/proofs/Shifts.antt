@@ -1,5 +1,5 @@
 -- Carrying branches have susceptances in range.
-use Rattle.std.proofs.Common.{◌≡◌, ℕ, ◌+◌, ◌*◌, ◌^◌, ◌<◌, ◌≤◌, Bool, true, false, cond, not, ◌&&◌, List, length, get_or, map, take, sum_by, ℤ, pos, ◌≤ℤ◌, nat_abs, arith, mul-le-mul, refl, sym, ap, subst, ◌∙◌}
+use Rattle.std.proofs.Common.{◌≡◌, ℕ, ◌+◌, ◌*◌, ◌^◌, ◌<◌, ◌≤◌, Bool, true, false, not, ◌&&◌, List, length, get_or, take, sum_by, ℤ, pos, ◌≤ℤ◌, nat_abs, arith, mul-le-mul, refl, sym, ap, subst, ◌∙◌}
 use Rattle.std.specs.List.{enumerate_from}
 use Rattle.std.proofs.lemmas.Bool.{and_parts, both_ways, cond_both}
 use Rattle.std.proofs.lemmas.Int.{ints}
@@ -8,7 +8,7 @@ use Rattle.std.proofs.lemmas.List.FromFn.{length-enumerate_from, get_or-enumerat
 use Rattle.std.proofs.lemmas.List.Sums.{sum_by_more}
 use Rattle.fb_types.specs.declared.grid.Branch.{Branch}
 use Rattle.fb_types.specs.declared.grid.BranchKind.{BranchKind}
-use Rattle.fb_types.specs.declared.grid.BranchKind.TheVariants.{Line, Transformer, Coupler}
+use Rattle.fb_types.specs.declared.grid.BranchKind.TheVariants.{Coupler}
 use Rattle.fb_types.specs.declared.grid.Grid.{Grid}
 use Rattle.fb_types.specs.GridRanges.{IsRunning, AreBranches}
 use Rattle.grid_state.specs.GridState.{GridState, carries_at}

@@ -2,7 +2,6 @@
 -- stay within 128 bits. Powers are in watts, susceptances in kW/rad, and phase shifts in 10^-12 rad.
 use Rattle.std.specs.Prelude.{ℕ, ◌+◌, ◌-◌, ◌*◌, ◌/◌, ◌^◌, ◌<◌, ◌≤◌, max, if◌then◌else◌, ◌+ℤ◌, List, length, sum_by, unsigned_abs}
 use Rattle.std.specs.List.{enumerate_from}
-use Rattle.fb_types.specs.declared.grid.Node.{Node}
 use Rattle.fb_types.specs.declared.grid.Branch.{Branch}
 use Rattle.fb_types.specs.declared.grid.Grid.{Grid}
 use Rattle.grid_state.specs.GridState.{GridState, classes_of, row_of, live_count, carries_at}

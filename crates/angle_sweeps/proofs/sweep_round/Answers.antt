@@ -1,4 +1,4 @@
-use Rattle.std.proofs.Common.{◌≡◌, ◌∙◌, sym}
+use Rattle.std.proofs.Common.{◌∙◌, sym}
 use Rattle.std.proofs.lemmas.Bool.{OnTrue_at, OnFalse_at}
 use Rattle.angle_sweeps.proofs.Round.{rises, stays, close_again, held}
 use Rattle.angle_sweeps.proofs.sweep_round.Goals as goal

@@ -1,6 +1,5 @@
 use Rattle.std.proofs.Common.{◌≡◌, ◌≤◌, ◌*◌, ℕ, max, Result, Ok, Err, IfOk, arith}
 use Rattle.grid_laplacian.specs.Sizes.{size_of, total_susceptance_of}
-use Rattle.grid_laplacian.specs.Ranges.{greater_total_of}
 use Rattle.grid_laplacian.proofs.SizeCondition.{room_for_less}
 use Rattle.angle_bounds.proofs.Made.{doubled_size}
 use Rattle.angle_bounds.proofs.Proposed.{barrier_of}

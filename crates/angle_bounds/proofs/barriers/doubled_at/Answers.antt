@@ -1,4 +1,4 @@
-use Rattle.std.proofs.Common.{rules, ◌≡◌, ℤ, pos, ◌*ℤ◌, ◌*◌, FitsSigned, arith, sym, ◌∙◌}
+use Rattle.std.proofs.Common.{◌≡◌, pos, ◌*ℤ◌, ◌*◌, FitsSigned, arith, sym, ◌∙◌}
 use Rattle.std.proofs.lemmas.Int.{ints, to_z-of_z}
 use Rattle.std.proofs.lemmas.Bool.{cond-true}
 use mir.Syntax.{w128}

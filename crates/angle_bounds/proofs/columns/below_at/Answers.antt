@@ -1,4 +1,4 @@
-use Rattle.std.proofs.Common.{rules, ◌<◌, ◌^◌, ℕ, List, ℤ, length, pos, slice_index_or, sym, ◌∙◌, FitsSigned, arith}
+use Rattle.std.proofs.Common.{rules, ◌^◌, pos, slice_index_or, sym, ◌∙◌, FitsSigned, arith}
 use Rattle.std.proofs.lemmas.Int.{to_z-of_z}
 use Rattle.std.proofs.lemmas.List.Elements.{All-get_or}
 use mir.Syntax.{w128}

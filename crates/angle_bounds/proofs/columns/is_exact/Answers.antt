@@ -1,4 +1,4 @@
-use Rattle.std.proofs.Common.{◌≡◌, ◌<◌, ◌-ℤ◌, ℕ, ℤ, pos, Bool, true, false, below_more, sym, arith, ap, ◌∙◌, FitsSigned, of_z, to_z, refl}
+use Rattle.std.proofs.Common.{◌≡◌, ◌-ℤ◌, pos, true, below_more, sym, arith, ap, ◌∙◌, to_z}
 use Rattle.std.proofs.lemmas.Bool.{both_ways}
 use Rattle.std.proofs.lemmas.Int.{to_z-of_z}
 use mir.Syntax.{w128}

@@ -1,4 +1,4 @@
-use Rattle.std.proofs.Common.{rules, ℤ, FitsSigned, to_z, of_z, ◌∙◌}
+use Rattle.std.proofs.Common.{FitsSigned, to_z, of_z, ◌∙◌}
 use Rattle.std.proofs.lemmas.Int.{to_z-of_z}
 use mir.Syntax.{w128}
 use Rattle.angle_bounds.specs.RightSides.{part_below}

@@ -1,11 +1,11 @@
-use Rattle.std.proofs.Common.{◌≡◌, ◌≤◌, ◌≤ℤ◌, ◌*◌, ℕ, ℤ, List, pos, max, length, All, Result, Ok, Err, IfOk, arith, ap, ◌∙◌, rules}
+use Rattle.std.proofs.Common.{◌≡◌, ◌≤◌, ◌≤ℤ◌, ◌*◌, ℕ, pos, max, length, Result, Ok, Err, IfOk, arith, ap, ◌∙◌}
 use Rattle.std.proofs.lemmas.Int.{ints}
 use Rattle.whole_laws.specs.Sums.{at}
 use Rattle.grid_state.specs.GridState.{classes_of}
 use Rattle.grid_laplacian.specs.Sizes.{size_of, total_susceptance_of}
 use Rattle.grid_laplacian.proofs.SizeCondition.{room_for_less}
-use Rattle.angle_bounds.specs.RightSides.{part_above, part_below, above_zero, below_zero, IsMade, IsDifference}
-use Rattle.angle_bounds.proofs.Made.{made_all, part_size, above_small, below_small, above_high, below_high}
+use Rattle.angle_bounds.specs.RightSides.{part_above, part_below, IsMade, IsDifference}
+use Rattle.angle_bounds.proofs.Made.{made_all, part_size, above_small, below_small, below_high}
 use Rattle.angle_bounds.proofs.Proposed.{proposed_of}
 use Rattle.angle_bounds.proofs.columns.swept.Goals as goal
 

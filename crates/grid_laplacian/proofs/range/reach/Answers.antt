@@ -1,5 +1,3 @@
-use Rattle.std.proofs.Common.{◌≡◌, ◌≤◌, ◌∙◌, ap, arith, ℕ, pos, to_z, ◌*◌, ◌/◌, ◌+◌, ◌-◌}
-use mir.Syntax.{w128}
 use Rattle.grid_state.specs.GridState.{live_count}
 use Rattle.grid_laplacian.specs.Sizes.{total_susceptance_of, least_susceptance_of}
 use Rattle.grid_laplacian.proofs.SizeLoops.{reach_value}

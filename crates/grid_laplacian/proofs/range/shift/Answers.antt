@@ -1,4 +1,4 @@
-use Rattle.std.proofs.Common.{rules, ◌≤◌, ◌^◌, arith, FitsSigned, nat_abs}
+use Rattle.std.proofs.Common.{rules, arith, FitsSigned}
 use Rattle.std.proofs.lemmas.Int.{ints}
 use mir.Syntax.{w64}
 use Rattle.grid_laplacian.proofs.Shifts.{shift_small}

@@ -1,4 +1,3 @@
-use Rattle.std.proofs.Common.{arith}
 use Rattle.grid_state.specs.GridState.{classes_of, row_of}
 use Rattle.grid_laplacian.specs.Sizes.{least_over}
 use Rattle.grid_laplacian.proofs.SizeLoops.{least_positive, least_below-small}

@@ -1,4 +1,4 @@
-use Rattle.std.proofs.Common.{◌≡◌, ◌≤◌, arith, ap, ◌∙◌, cond, ℕ}
+use Rattle.std.proofs.Common.{◌≡◌, arith, ap, ◌∙◌, cond, ℕ}
 use Rattle.whole_laws.specs.Sums.{total_below}
 use Rattle.grid_state.specs.GridState.{is_live, classes_of}
 use Rattle.grid_laplacian.proofs.SizeLoops.{live_total}
