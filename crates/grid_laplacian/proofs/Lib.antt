@@ -6,6 +6,7 @@ pub mod Drained
 pub mod Enclosure
 pub mod Existence
 pub mod LawProofs
+pub mod Least
 pub mod Maximum
 pub mod PartialSums
 pub mod Shifts

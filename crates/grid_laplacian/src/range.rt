@@ -2,7 +2,7 @@
 
 ghost use Rattle.std.specs.Prelude.{◌≡◌, ◌+◌, ◌*◌, ◌/◌, ◌^◌, ◌<◌, ◌≤◌, ◌+ℤ◌, pos, ℕ, true, IsTrue, ◌↔◌, length, sum_by, unsigned_abs};
 ghost use Rattle.grid_state.specs.GridState.{carries_at};
-ghost use Rattle.grid_laplacian.specs.Sizes.{greatest_susceptance_of};
+ghost use Rattle.grid_laplacian.specs.Sizes.{greatest_susceptance_of, least_susceptance_of, IsLeastSusceptance};
 ghost use Rattle.grid_laplacian.specs.Ranges.{reach_of, HasCrossing, HasRoomFor, IsOfGrid, exchanges_of, shift_of, shifts_of, greatest_total_of, IsInRange};
 
 use crate::sizes::{greatest_susceptance, least_susceptance, live_classes, total_susceptance};
@@ -133,8 +133,12 @@ pub fn range_ok(state: &State, grid: &Grid) -> bool
 ///
 /// A barrier is at most twice the reach. The call takes no memory.
 pub fn reach(state: &State) -> i128
-    ensures { result ≡ pos (reach_of state.now) }
+    ensures value { result ≡ pos (reach_of state.now) }
+
+    // The least susceptance is that of a carrying branch, where one joins two classes.
+    ensures least { HasCrossing state.now → IsLeastSusceptance state.now (least_susceptance_of state.now) }
 {
+    state.sound();
     let least = u128::from(least_susceptance(state));
     let whole = (total_susceptance(state) + least - 1) / least;
     (u128::from(live_classes(state)) * whole) as i128
