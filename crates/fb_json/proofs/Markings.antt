@@ -1,9 +1,10 @@
 -- Each document has one marking, the one that is made byte by byte.
-use Rattle.std.proofs.Common.{◌≡◌, ◌≢◌, ℕ, Bool, true, false, cond, eqb, inl, inr, List, [], ◌∷◌, ◌++◌, refl, sym, ap, subst, ◌∙◌, append_assoc, append-nil, Result, Ok, Err, Vec}
+use Rattle.std.proofs.Common.{◌≡◌, ◌≢◌, ℕ, Bool, true, false, cond, eqb, inl, inr, List, [], ◌∷◌, ◌++◌, refl, sym, ap, subst, ◌∙◌, append_assoc, append-nil, take, drop, Result, Ok, Err, Vec}
 use Rattle.std.specs.Prelude.{IfOk}
 use Rattle.std.specs.declared.alloc.Global.{Global}
 use Rattle.std.specs.List.{AllByRecursion}
 use Rattle.std.specs.Char.{is_ascii_digit}
+use Rattle.std.proofs.lemmas.List.{take-append-drop}
 use Rattle.std.proofs.lemmas.Bool.{or_cases, eqb-true, eqb-false, false≢true}
 use Rattle.fb_json.specs.Number.{IsNumber}
 use Rattle.fb_json.specs.Scan.{is_number}
@@ -13,7 +14,7 @@ use Rattle.fb_json.proofs.Numbers.{is_number_sound, is_number_complete}
 
 -- ---- bytes by their tests
 
-is_not : (c d : ℕ) → c ≢ d → (b : Bool) → eqb c d ≡ b → b ≡ false
+pub is_not : (c d : ℕ) → c ≢ d → (b : Bool) → eqb c d ≡ b → b ≡ false
 is_not c d ne true e = absurd (ne (eqb-true c d e))
 is_not c d ne false e = refl
 
@@ -58,6 +59,12 @@ run_outside [] rest h = absurd (false≢true h.begins)
 run_outside (c ∷ cs) rest h =
     let b : begins_run c ≡ true = h.begins in
     rw b (run_goes_on (c ∷ []) cs rest h.are_of_run.1 ∙ run_ends (c ∷ cs) rest h.longest)
+
+-- a run that is put, before what stands behind it
+pub run_put : (out new run rest bytes : List ℕ) (n : ℕ) → run ≡ take n bytes → rest ≡ drop n bytes → IsRun (take n bytes) (drop n bytes) → new ≡ out ++ spelled run → new ++ outside rest ≡ out ++ outside bytes
+run_put out new run rest bytes n front back is_run put =
+    rw (put, front, back) (append_assoc out (spelled (take n bytes)) (outside (drop n bytes))
+    ∙ ap (λ (x : List ℕ). out ++ x) (sym (run_outside (take n bytes) (drop n bytes) is_run) ∙ ap outside (take-append-drop n bytes)))
 
 spelled_number : (run : List ℕ) → IsNumber run → spelled run ≡ quote ∷ 110 ∷ run ++ quote ∷ []
 spelled_number run n = rw (is_number_complete run n) refl

@@ -3,7 +3,16 @@ use Rattle.std.proofs.Common.{◌≡◌, ◌↔◌, IsTrue, ℕ, ◌<◌, ◌≤
 use Rattle.std.specs.Option.{option_map_or}
 use Rattle.std.specs.Char.{is_ascii_digit}
 use Rattle.std.proofs.lemmas.Bool.{or_cases, eqb-true, eqb-false, false≢true}
-use Rattle.fb_decimal.specs.Spelling.{is_sign, is_point, is_mark, AreDigits, IsSign, IsPower, IsExponent}
+use Rattle.fb_decimal.specs.Spelling.{is_sign, is_point, is_mark, AreDigits, IsSign, IsPower, IsExponent, IsSpelling}
+use Rattle.fb_decimal.specs.Spelling as spelling
+use Rattle.fb_decimal.specs.Reading.{spelled_as}
+use Rattle.fb_decimal.specs.declared.Decimal.{Decimal}
+use Rattle.fb_decimal.proofs.Law.{reads_spelling}
+use Rattle.serde_json.specs.Data.{Data}
+use Rattle.serde_json.specs.Find.{as_str}
+use Rattle.fb_json.specs.Marking.{number_mark}
+use Rattle.fb_json.specs.Tree.{number_in, decimal_of}
+use Rattle.fb_json.specs.declared.document.Got.{Got}
 use Rattle.fb_json.specs.Number.{IsMinus, IsWhole, IsFraction, IsNumber}
 use Rattle.fb_json.specs.Scan.{part_after, is_end, goes_on, is_number}
 use Rattle.fb_json.specs.declared.number.Part.{Part}
@@ -314,3 +323,27 @@ is_number_complete run n =
 pub is_number_exact : (run : List ℕ) (b : Bool) → b ≡ is_number run → IsTrue b ↔ IsNumber run
 is_number_exact run true e = (λ t. is_number_sound run (sym e), λ n. refl)
 is_number_exact run false e = (λ t. absurd (false≢true t), λ n. absurd (false≢true (e ∙ is_number_complete run n)))
+
+-- ---- a number is a spelling of a decimal
+
+minus_sign : (minus : List ℕ) → IsMinus minus → IsSign minus
+minus_sign minus (inl e) = subst IsSign (sym e) tt
+minus_sign minus (inr e) = subst IsSign (sym e) refl
+
+whole_digits : (whole : List ℕ) → IsWhole whole → AreDigits whole × (0 < length whole)
+whole_digits [] w = absurd w
+whole_digits (c ∷ cs) w = (w.0, omega arith)
+
+point_digits : (fraction : List ℕ) → IsFraction fraction → spelling.IsFraction fraction
+point_digits [] f = tt
+point_digits (c ∷ cs) f = (f.0, f.1)
+
+pub is_spelling : (run : List ℕ) → IsNumber run → IsSpelling run
+is_spelling run n =
+    let w = whole_digits n.whole n.is_whole in
+    record { sign = n.minus; whole = n.whole; fraction = n.fraction; exponent = n.exponent; is_sign = minus_sign n.minus n.is_minus; are_digits = w.0; is_fraction = point_digits n.fraction n.is_fraction; some_digit = inl w.1; is_exponent = n.is_exponent; parts = n.parts }
+
+-- what is read of a number
+pub number_is_read : (d : Data) (got : Got Decimal) (run : List ℕ) → got ≡ decimal_of d → IsNumber run → as_str d ≡ Some (number_mark ∷ run) → (s : IsSpelling run) × (got ≡ number_in (spelled_as s))
+unfolding decimal_of
+number_is_read d got run e n is = (is_spelling run n, e ∙ rw is (ap number_in (reads_spelling run (is_spelling run n))))

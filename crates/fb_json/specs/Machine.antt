@@ -1,19 +1,17 @@
 -- Marking byte by byte. Nobody need believe this: it is tied to the marked bytes of a document by a lemma.
 use Rattle.std.specs.Prelude.{ℕ, ◌==◌, List, [], ◌∷◌, ◌++◌, if◌then◌else◌}
-use Rattle.fb_json.specs.Marking.{quote, backslash, is_of_run, begins_run}
+use Rattle.fb_json.specs.Marking.{quote, backslash, text_mark, number_mark, no_number_mark, is_of_run, begins_run}
 use Rattle.fb_json.specs.Scan.{is_number}
-use Rattle.fb_json.specs.declared.marking.Where.{Where}
-use Rattle.fb_json.specs.declared.marking.Where.TheVariants.{Outside, InText, Escaped, InRun}
 
 -- what a run becomes
 abbrev pub spelled : List ℕ → List ℕ
-spelled run = if is_number run then quote ∷ 110 ∷ run ++ quote ∷ [] else 33 ∷ []
+spelled run = if is_number run then quote ∷ number_mark ∷ run ++ quote ∷ [] else no_number_mark ∷ []
 
 -- what the bytes become outside strings, in a string, behind a backslash there, and in a run of which so much stood before
 abbrev mutual
   pub outside : List ℕ → List ℕ
   outside [] = []
-  outside (c ∷ cs) = if begins_run c then in_run (c ∷ []) cs else (if c == quote then quote ∷ 115 ∷ in_text cs else c ∷ outside cs)
+  outside (c ∷ cs) = if begins_run c then in_run (c ∷ []) cs else (if c == quote then quote ∷ text_mark ∷ in_text cs else c ∷ outside cs)
 
   pub in_text : List ℕ → List ℕ
   in_text [] = []
@@ -25,11 +23,4 @@ abbrev mutual
 
   pub in_run : List ℕ → List ℕ → List ℕ
   in_run run [] = spelled run
-  in_run run (c ∷ cs) = if is_of_run c then in_run (run ++ c ∷ []) cs else spelled run ++ (if c == quote then quote ∷ 115 ∷ in_text cs else c ∷ outside cs)
-
--- the same by the place
-abbrev pub going : Where → List ℕ → List ℕ → List ℕ
-going Outside run cs = outside cs
-going InText run cs = in_text cs
-going Escaped run cs = escaped cs
-going InRun run cs = in_run run cs
+  in_run run (c ∷ cs) = if is_of_run c then in_run (run ++ c ∷ []) cs else spelled run ++ (if c == quote then quote ∷ text_mark ∷ in_text cs else c ∷ outside cs)

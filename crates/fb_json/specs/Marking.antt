@@ -13,6 +13,18 @@ quote = 34
 abbrev pub backslash : ℕ
 backslash = 92
 
+-- s, in front of a text
+abbrev pub text_mark : ℕ
+text_mark = 115
+
+-- n, in front of a number
+abbrev pub number_mark : ℕ
+number_mark = 110
+
+-- !, for a run that is no number
+abbrev pub no_number_mark : ℕ
+no_number_mark = 33
+
 -- ---- strings
 
 -- what stands between a string's quotation marks: a backslash escapes the byte after it
@@ -52,10 +64,10 @@ pub record IsRun (run rest : List ℕ) : Type 0 where
 -- quotation marks behind n, any other run is !, all else stays
 pub data Marks : List ℕ → List ℕ → Type 0 where
   nothing_left : Marks [] []
-  text : (body rest marked : List ℕ) → IsBody body → Marks rest marked → Marks (quote ∷ body ++ quote ∷ rest) (quote ∷ 115 ∷ body ++ quote ∷ marked)
-  cut_text : (body : List ℕ) → IsCutBody body → Marks (quote ∷ body) (quote ∷ 115 ∷ body)
-  number : (run rest marked : List ℕ) → IsRun run rest → IsNumber run → Marks rest marked → Marks (run ++ rest) (quote ∷ 110 ∷ run ++ quote ∷ marked)
-  no_number : (run rest marked : List ℕ) → IsRun run rest → (IsNumber run → ⊥) → Marks rest marked → Marks (run ++ rest) (33 ∷ marked)
+  text : (body rest marked : List ℕ) → IsBody body → Marks rest marked → Marks (quote ∷ body ++ quote ∷ rest) (quote ∷ text_mark ∷ body ++ quote ∷ marked)
+  cut_text : (body : List ℕ) → IsCutBody body → Marks (quote ∷ body) (quote ∷ text_mark ∷ body)
+  number : (run rest marked : List ℕ) → IsRun run rest → IsNumber run → Marks rest marked → Marks (run ++ rest) (quote ∷ number_mark ∷ run ++ quote ∷ marked)
+  no_number : (run rest marked : List ℕ) → IsRun run rest → (IsNumber run → ⊥) → Marks rest marked → Marks (run ++ rest) (no_number_mark ∷ marked)
   other : (c : ℕ) (rest marked : List ℕ) → begins_run c ≡ false → c ≢ quote → Marks rest marked → Marks (c ∷ rest) (c ∷ marked)
 
 -- U+FEFF in UTF-8

@@ -8,7 +8,7 @@ use Rattle.serde_json.specs.Read.{read}
 use Rattle.fb_decimal.specs.Reading.{decimal_of as number_of}
 use Rattle.fb_decimal.specs.declared.Decimal.{Decimal}
 use Rattle.fb_decimal.specs.declared.DecimalFault.{DecimalFault}
-use Rattle.fb_json.specs.Marking.{IsMarked}
+use Rattle.fb_json.specs.Marking.{text_mark, number_mark, IsMarked}
 use Rattle.fb_json.specs.declared.document.Got.{Got}
 use Rattle.fb_json.specs.declared.document.Got.TheVariants.{Absent, Wrong, Value}
 
@@ -25,6 +25,7 @@ got_map f Absent = Absent
 got_map f Wrong = Wrong
 got_map f (Value x) = Value (f x)
 
+-- the items of an array, in their order
 abbrev pub listed : Items → List Data
 listed no_items = []
 listed (item d ds) = d ∷ listed ds
@@ -34,11 +35,12 @@ abbrev pub present : Option Data → Got Data
 present None = Absent
 present (Some d) = if is_some (as_null d) then Absent else Value d
 
--- a text after its mark
+-- what stands behind the mark
 abbrev pub behind : ℕ → List ℕ → Got (List ℕ)
 behind mark [] = Wrong
 behind mark (c ∷ cs) = if mark == c then Value cs else Wrong
 
+-- a number in the range of decimals
 abbrev pub number_in : Result Decimal DecimalFault → Got Decimal
 number_in (Ok n) = Value n
 number_in (Err e) = Wrong
@@ -55,20 +57,26 @@ truth_behind (Value text) = if bytes_eq text (codes "true") then Value true else
 
 -- ---- what stands in a tree
 
+-- the member of an object; serde_json's objects have each name once
 unfoldable pub member_of : List ℕ → Data → Got Data
-member_of name d = option_map_or (λ ms. present (get_member (115 ∷ name) ms)) (as_object d) Wrong
+member_of name d = option_map_or (λ ms. present (get_member (text_mark ∷ name) ms)) (as_object d) Wrong
 
+-- how many items an array has
 unfoldable pub length_of : Data → Got ℕ
 length_of d = option_map_or (λ ds. Value (length (listed ds))) (as_array d) Wrong
 
+-- the item of an array at a place counted from 0, absent past its end
 unfoldable pub item_of : ℕ → Data → Got Data
 item_of k d = option_map_or (λ ds. option_map_or (λ e. Value e) (slice_get (listed ds) k) Absent) (as_array d) Wrong
 
+-- a text, without its mark
 unfoldable pub text_of : Data → Got (List ℕ)
-text_of d = option_map_or (behind 115) (as_str d) Wrong
+text_of d = option_map_or (behind text_mark) (as_str d) Wrong
 
+-- a number, in millionths
 unfoldable pub decimal_of : Data → Got Decimal
-decimal_of d = option_map_or (λ text. number_behind (behind 110 text)) (as_str d) Wrong
+decimal_of d = option_map_or (λ text. number_behind (behind number_mark text)) (as_str d) Wrong
 
+-- true or false, also as a text
 unfoldable pub truth_of : Data → Got Bool
-truth_of d = option_map_or (λ b. Value b) (as_bool d) (option_map_or (λ text. truth_behind (behind 115 text)) (as_str d) Wrong)
+truth_of d = option_map_or (λ b. Value b) (as_bool d) (option_map_or (λ text. truth_behind (behind text_mark text)) (as_str d) Wrong)

@@ -1,39 +1,61 @@
-//! Marking: numbers become texts that begin with `n`, and texts begin with `s`.
+//! Marking: numbers become texts that begin with `n`, and other texts begin with `s`.
 
-ghost use Rattle.std.specs.Prelude.{◌≡◌, ◌==◌, List, ℕ, [], ◌∷◌, ◌++◌, IfOk, if◌then◌else◌};
-ghost use Rattle.fb_json.specs.Marking.{quote, is_of_run, begins_run, without_byte_order_mark, IsMarked};
-ghost use Rattle.fb_json.specs.Machine.{spelled, outside, in_text, escaped, in_run, going};
+ghost use Rattle.std.specs.Prelude.{◌≡◌, ◌≢◌, ◌<◌, ◌≤◌, true, List, ℕ, [], ◌∷◌, ◌++◌, IfOk, length, take, drop};
+ghost use Rattle.fb_json.specs.Marking.{quote, text_mark, is_of_run, begins_run, begins_with, without_byte_order_mark, IsRun, IsMarked};
+ghost use Rattle.fb_json.specs.Machine.{spelled, outside, in_text};
 
 use crate::number::is_number;
 use std::alloc::{AllocError, Global};
 
-/// Where the next byte stands.
-#[derive(Clone, Copy, Debug, PartialEq, Eq)]
-pub enum Where {
-    Outside,
-    InText,
-    Escaped,
-    InRun,
+fn is_of_run(byte: u8) -> bool
+    ensures { result ≡ is_of_run byte }
+{
+    matches!(byte, b'0'..=b'9' | b'+' | b'-' | b'.' | b'e' | b'E')
 }
 
-fn is_of_run(c: u8) -> bool
-    ensures { result ≡ is_of_run c }
+fn begins_run(byte: u8) -> bool
+    ensures { result ≡ begins_run byte }
 {
-    c.is_ascii_digit() || c == b'+' || c == b'-' || c == b'.' || c == b'e' || c == b'E'
+    matches!(byte, b'0'..=b'9' | b'-')
 }
 
-fn begins_run(c: u8) -> bool
-    ensures { result ≡ begins_run c }
+/// How many bytes the run at the front has.
+fn run_len(bytes: &[u8]) -> usize
+    requires { begins_with begins_run bytes.now ≡ true }
+    ensures within { result ≤ length bytes.now }
+    ensures run { IsRun (take result bytes.now) (drop result bytes.now) }
 {
-    c.is_ascii_digit() || c == b'-'
+    for (at, byte) in bytes.iter().enumerate() {
+        if !is_of_run(*byte) {
+            return at;
+        }
+    }
+    bytes.len()
+}
+
+/// How many bytes a string has behind its opening quotation mark, the closing one with them: all where none closes it.
+fn string_len(bytes: &[u8]) -> usize
+    ensures within { result ≤ length bytes.now }
+    ensures string { in_text bytes.now ≡ take result bytes.now ++ outside (drop result bytes.now) }
+{
+    let mut is_escaped = false;
+    for (at, byte) in bytes.iter().enumerate() {
+        if is_escaped {
+            is_escaped = false;
+        } else if *byte == b'"' {
+            return at + 1;
+        } else {
+            is_escaped = *byte == b'\\';
+        }
+    }
+    bytes.len()
 }
 
 fn put_run(out: &mut Vec<u8>, run: &[u8]) -> Result<(), AllocError>
     ensures { IfOk result (λ _. out.new.items ≡ out.old.items ++ spelled run.now) }
 {
     if is_number(run) {
-        out.push(b'"')?;
-        out.push(b'n')?;
+        out.extend_from_slice(b"\"n")?;
         out.extend_from_slice(run)?;
         out.push(b'"')?;
     } else {
@@ -42,71 +64,43 @@ fn put_run(out: &mut Vec<u8>, run: &[u8]) -> Result<(), AllocError>
     Ok(())
 }
 
-/// Puts a byte that stands outside texts and begins no run.
-fn put_plain(out: &mut Vec<u8>, c: u8) -> Result<Where, AllocError>
-    ensures { IfOk result (λ next. (run cs : List ℕ) → out.new.items ++ going next run cs
-        ≡ out.old.items ++ (if c == quote then quote ∷ 115 ∷ in_text cs else c ∷ outside cs)) }
+/// Puts the run at the front, and gives what stands behind it.
+fn mark_run<'a>(out: &mut Vec<u8>, bytes: &'a [u8]) -> Result<&'a [u8], AllocError>
+    requires { begins_with begins_run bytes.now ≡ true }
+    ensures marks { IfOk result (λ rest. out.new.items ++ outside rest.now ≡ out.old.items ++ outside bytes.now) }
+    ensures shorter { IfOk result (λ rest. length rest.now < length bytes.now) }
 {
-    out.push(c)?;
-    if c == b'"' {
-        out.push(b's')?;
-        Ok(Where::InText)
-    } else {
-        Ok(Where::Outside)
-    }
-}
-
-fn after_outside(out: &mut Vec<u8>, run: &mut Vec<u8>, c: u8) -> Result<Where, AllocError>
-    ensures { IfOk result (λ next. (cs : List ℕ) → out.new.items ++ going next run.new.items cs ≡ out.old.items ++ outside (c ∷ cs)) }
-{
-    if begins_run(c) {
-        run.clear();
-        run.push(c)?;
-        return Ok(Where::InRun);
-    }
-    put_plain(out, c)
-}
-
-fn after_text(out: &mut Vec<u8>, c: u8) -> Result<Where, AllocError>
-    ensures { IfOk result (λ next. (run cs : List ℕ) → out.new.items ++ going next run cs ≡ out.old.items ++ in_text (c ∷ cs)) }
-{
-    out.push(c)?;
-    if c == b'"' {
-        Ok(Where::Outside)
-    } else if c == b'\\' {
-        Ok(Where::Escaped)
-    } else {
-        Ok(Where::InText)
-    }
-}
-
-fn after_run(out: &mut Vec<u8>, run: &mut Vec<u8>, c: u8) -> Result<Where, AllocError>
-    ensures { IfOk result (λ next. (cs : List ℕ) → out.new.items ++ going next run.new.items cs ≡ out.old.items ++ in_run run.old.items (c ∷ cs)) }
-{
-    if is_of_run(c) {
-        run.push(c)?;
-        return Ok(Where::InRun);
-    }
+    let (run, rest) = bytes.split_at(run_len(bytes));
     put_run(out, run)?;
-    put_plain(out, c)
+    Ok(rest)
 }
 
-fn after_escape(out: &mut Vec<u8>, c: u8) -> Result<Where, AllocError>
-    ensures { IfOk result (λ next. (run cs : List ℕ) → out.new.items ++ going next run cs ≡ out.old.items ++ escaped (c ∷ cs)) }
+/// Puts the string whose opening quotation mark stands before the bytes, and gives what stands behind it.
+fn mark_string<'a>(out: &mut Vec<u8>, bytes: &'a [u8]) -> Result<&'a [u8], AllocError>
+    ensures marks { IfOk result (λ rest. out.new.items ++ outside rest.now ≡ out.old.items ++ quote ∷ text_mark ∷ in_text bytes.now) }
+    ensures shorter { IfOk result (λ rest. length rest.now ≤ length bytes.now) }
 {
-    out.push(c)?;
-    Ok(Where::InText)
+    let (string, rest) = bytes.split_at(string_len(bytes));
+    out.extend_from_slice(b"\"s")?;
+    out.extend_from_slice(string)?;
+    Ok(rest)
 }
 
-fn after(out: &mut Vec<u8>, run: &mut Vec<u8>, place: Where, c: u8) -> Result<Where, AllocError>
-    ensures { IfOk result (λ next. (cs : List ℕ) → out.new.items ++ going next run.new.items cs ≡ out.old.items ++ going place run.old.items (c ∷ cs)) }
+/// Puts what stands at the front of the bytes, and gives what stands behind it.
+fn mark_front<'a>(out: &mut Vec<u8>, bytes: &'a [u8]) -> Result<&'a [u8], AllocError>
+    requires { bytes.now ≢ [] }
+    ensures marks { IfOk result (λ rest. out.new.items ++ outside rest.now ≡ out.old.items ++ outside bytes.now) }
+    ensures shorter { IfOk result (λ rest. length rest.now < length bytes.now) }
 {
-    match place {
-        Where::Outside => after_outside(out, run, c),
-        Where::InText => after_text(out, c),
-        Where::Escaped => after_escape(out, c),
-        Where::InRun => after_run(out, run, c),
+    let behind = &bytes[1..];
+    if begins_run(bytes[0]) {
+        return mark_run(out, bytes);
     }
+    if bytes[0] == b'"' {
+        return mark_string(out, behind);
+    }
+    out.push(bytes[0])?;
+    Ok(behind)
 }
 
 fn without_byte_order_mark(bytes: &[u8]) -> &[u8]
@@ -118,17 +112,13 @@ fn without_byte_order_mark(bytes: &[u8]) -> &[u8]
     }
 }
 
-fn mark_from(alloc: Global, bytes: &[u8]) -> Result<Vec<u8>, AllocError>
+fn mark_all(alloc: Global, bytes: &[u8]) -> Result<Vec<u8>, AllocError>
     ensures { IfOk result (λ v. v.items ≡ outside bytes.now) }
 {
     let mut out = Vec::new(alloc);
-    let mut run = Vec::new(alloc);
-    let mut place = Where::Outside;
-    for c in bytes {
-        place = after(&mut out, &mut run, place, *c)?;
-    }
-    if let Where::InRun = place {
-        put_run(&mut out, &run)?;
+    let mut rest = bytes;
+    while !rest.is_empty() {
+        rest = mark_front(&mut out, rest)?;
     }
     Ok(out)
 }
@@ -136,9 +126,10 @@ fn mark_from(alloc: Global, bytes: &[u8]) -> Result<Vec<u8>, AllocError>
 /// The bytes with each number as a text behind `n`, and an `s` before each other text.
 pub fn mark(alloc: Global, bytes: &[u8]) -> Result<Vec<u8>, AllocError>
     ensures marks { IfOk result (λ v. IsMarked bytes.now v.items) }
+
     // Each document has one marking.
     ensures some { (one : List ℕ) × IsMarked bytes.now one }
     ensures only { (one two : List ℕ) → IsMarked bytes.now one → IsMarked bytes.now two → one ≡ two }
 {
-    mark_from(alloc, without_byte_order_mark(bytes))
+    mark_all(alloc, without_byte_order_mark(bytes))
 }
