@@ -1,6 +1,5 @@
 -- The least susceptance is that of some carrying branch, wherever one joins two classes.
-use Rattle.std.proofs.Common.{◌≡◌, ℕ, zero, suc, ◌+◌, ◌<◌, ◌≤◌, ◌⊎◌, inl, inr, List, [], ◌∷◌, length, get_or, All, arith, refl, ◌∙◌}
-use Rattle.std.specs.List.{Any}
+use Rattle.std.proofs.Common.{◌≡◌, ℕ, zero, suc, ◌<◌, ◌≤◌, ◌⊎◌, inl, inr, List, [], ◌∷◌, length, get_or, All, arith, refl, ◌∙◌}
 use Rattle.std.proofs.lemmas.List.Elements.{All-head, All-tail}
 use Rattle.grid_state.specs.declared.types.Edge.{Edge}
 use Rattle.grid_state.specs.GridState.{GridState, row_of, classes_of, IsEdge, IsSound}
