@@ -1,0 +1,5 @@
+pub mod Scaled
+pub mod Supplies
+pub mod Held
+pub mod Weights
+pub mod Zones
