@@ -1,6 +1,6 @@
 //! Arrays, item by item.
 
-ghost use Rattle.std.specs.Prelude.{◌≡◌, ◌<◌, ◌+◌, List, [], ◌∷◌, ◌++◌, Option, Result, length, drop, OnOk, IfOk, IfSome};
+ghost use Rattle.std.specs.Prelude.{◌≡◌, ◌<◌, ◌≤◌, ◌+◌, List, [], ◌∷◌, ◌++◌, Option, Result, length, drop, OnOk, IfOk, IfSome};
 ghost use Rattle.std.specs.Option.{option_to_list, option_map};
 ghost use Rattle.fb_json.specs.Spots.{spot_tree};
 ghost use Rattle.json_reading.specs.Reading.{At, Fault, entries_of, each, spots_from, array, optional_array, required_array};
@@ -72,6 +72,7 @@ where
     requires index { R.keeps index.old [] }
     ensures items { Gives (λ v. v.items) result (each (R.reads reader.now) [] (spots_from 0 (at_of at.now) (entries_of (spot_tree at.now.spot)))) }
     ensures index { IfOk result (λ v. R.keeps index.new v.items) }
+    ensures few { IfOk result (λ v. length v.items ≤ count) }
 {
     let mut items = Vec::new(alloc);
     for number in 0..count {
@@ -97,6 +98,7 @@ where
     requires { R.keeps index.old [] }
     ensures items { Gives (λ v. v.items) result (array (R.reads reader.now) (at_of at.now)) }
     ensures index { IfOk result (λ v. R.keeps index.new v.items) }
+    ensures few { IfOk result (λ v. length v.items ≤ length (entries_of (spot_tree at.now.spot))) }
 {
     match at.spot.length() {
         Got::Value(count) => items_of(alloc, reader, index, at, count),

@@ -14,6 +14,11 @@ returns-in-Value-clause-items g c =
     let e = counted (spot_tree c.args.at.now.spot) c.in-Value.count (sym c.in-Value.ensures) in
     rw e.1 c.items_of.ensures.items
 
+pub returns-in-Value-clause-few : goal.returns-in-Value-clause-few
+returns-in-Value-clause-few g c =
+    let e = (counted (spot_tree c.args.at.now.spot) c.in-Value.count (sym c.in-Value.ensures)).0 in
+    rw (sym e) c.items_of.ensures.few
+
 pub returns-in_default-clause-items : goal.returns-in_default-clause-items
 unfolding array
 returns-in_default-clause-items g c =
