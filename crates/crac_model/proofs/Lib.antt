@@ -1,2 +1,4 @@
 pub mod PowerLaws
 pub mod LimitLaws
+pub mod NameLaws
+pub mod TableLaws

@@ -1,9 +1,7 @@
 //! The monitored elements of a CRAC.
 
-ghost use Rattle.std.specs.Prelude.{◌≡◌, ◌++◌, pos, not, IfOk, OnOk};
+ghost use Rattle.std.specs.Prelude.{◌≡◌, ◌++◌, IfOk};
 ghost use Rattle.std.specs.Option.{option_map_or, option_to_list};
-ghost use Rattle.name_tables.specs.Names.{is_among};
-ghost use Rattle.name_tables.specs.Tables.{with_name};
 ghost use Rattle.json_reading.specs.Outcome.{Gives, same};
 ghost use Rattle.json_reading.specs.Here.{at_of};
 ghost use Rattle.crac_model.specs.Naming.{grid_of};
@@ -13,7 +11,7 @@ ghost use Rattle.crac_model.specs.Known.{facts_of, state_in};
 use crate::fault::CracKind;
 use crate::instants::{InstantKind, is_preventive};
 use crate::limits::{Limits, read_limits};
-use crate::names::{GridNames, Named, find_named};
+use crate::names::{GridNames, Named, add_name, find_named};
 use crate::ratings::{amounts, ratings_at};
 use fb_decimal::Decimal;
 use fb_types::{BranchKind, Element, Text};
@@ -146,14 +144,6 @@ fn rated_limits(
     read_limits(alloc, &ratings_at(grid, place, currents, voltages), at)
 }
 
-/// Adds an id, and says whether it is new.
-fn is_new(alloc: Global, ids: &mut NameTable, id: &str) -> Result<bool, AllocError>
-    ensures added { IfOk result (λ is_new. is_new ≡ not (is_among ids.old id.now)) }
-    ensures names { OnOk result (ids.new ≡ with_name ids.old id.now) }
-{
-    ids.add(String::from_str(alloc, id)?)
-}
-
 fn element(
     alloc: Global,
     id: &str,
@@ -178,7 +168,7 @@ fn element(
     })
 }
 
-#[tactic(auto, using(json_reading::proofs::Refused::refused), unfolding(crate::specs::Crac::entered_of))]
+#[tactic(auto, using(json_reading::proofs::Refused::refused, crate::proofs::TableLaws::push_element), unfolding(crate::specs::Crac::entered_of))]
 fn entered_of(
     alloc: Global,
     reader: &ElementReader<'_>,
@@ -194,7 +184,7 @@ fn entered_of(
         return Err(at.fault(alloc, CracKind::TooMany));
     }
     let id = at.required_text(alloc, "id")?;
-    if !is_new(alloc, ids, id)? {
+    if !add_name(alloc, ids, id)? {
         return Err(at.fault_in(alloc, "id", CracKind::DuplicateId));
     }
     let found = monitored_of(alloc, &reader.grid, at)?;

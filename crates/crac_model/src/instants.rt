@@ -1,13 +1,13 @@
 //! The instants of a CRAC.
 
-ghost use Rattle.std.specs.Prelude.{◌≡◌, IfOk, OnOk};
-ghost use Rattle.name_tables.specs.Tables.{with_entry};
+ghost use Rattle.std.specs.Prelude.{◌≡◌, IfOk};
 ghost use Rattle.json_reading.specs.Outcome.{Gives, same};
 ghost use Rattle.json_reading.specs.Here.{at_of};
 ghost use Rattle.crac_model.specs.Words.{instant_kind, is_preventive};
 ghost use Rattle.crac_model.specs.Crac.{kinds_of, instant_of, default_kinds, instants_of};
 
 use crate::fault::CracKind;
+use crate::names::{note, note_new};
 use fb_types::Text;
 use json_reading::{Here, ItemReader, ReadError, optional_array};
 use name_tables::ValueTable;
@@ -49,17 +49,6 @@ pub fn is_preventive(kind: InstantKind) -> bool
     matches!(kind, InstantKind::Preventive)
 }
 
-fn note(
-    alloc: Global,
-    kinds: &mut ValueTable<InstantKind>,
-    id: &str,
-    kind: InstantKind,
-) -> Result<(), AllocError>
-    ensures { OnOk result (kinds.new ≡ with_entry kinds.old id.now kind) }
-{
-    kinds.note(String::from_str(alloc, id)?, kind)
-}
-
 struct InstantReader;
 
 impl ItemReader for InstantReader {
@@ -73,7 +62,7 @@ impl ItemReader for InstantReader {
 
     ghost keeps = { λ kinds before. kinds ≡ kinds_of before };
 
-    #[tactic(auto, using(json_reading::proofs::Refused::refused), unfolding(crate::specs::Crac::instant_of))]
+    #[tactic(auto, using(json_reading::proofs::Refused::refused, crate::proofs::TableLaws::push_instant), unfolding(crate::specs::Crac::instant_of))]
     fn read(
         &self,
         alloc: Global,
@@ -87,7 +76,7 @@ impl ItemReader for InstantReader {
         }
         let word = at.required_text(alloc, "kind")?;
         let kind = at.known(alloc, "kind", CracKind::WrongType, instant_kind(word))?;
-        note(alloc, index, id, kind)?;
+        note_new(alloc, index, id, kind)?;
         let id = Text::from_text(alloc, id)?;
         Ok(Some(Instant { id, kind }))
     }

@@ -251,7 +251,7 @@ fn smaller(a: Option<i64>, b: Option<i64>) -> Option<i64>
 }
 
 /// The smallest limit of each direction.
-#[tactic(auto, using(crate::proofs::LimitLaws::smaller_assoc), unfolding(crate::specs::Thresholds::tightest))]
+#[tactic(auto, unfolding(crate::specs::Thresholds::tightest))]
 fn tightest(thresholds: &[Limits]) -> Limits
     ensures { result ≡ tightest thresholds.now }
 {

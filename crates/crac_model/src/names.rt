@@ -1,11 +1,13 @@
 //! What a text names in a grid: a branch, or a tie line of two.
 
-ghost use Rattle.std.specs.Prelude.{◌≡◌, ◌≤◌, ◌<◌, ◌^◌, length, Some, IfOk};
+ghost use Rattle.std.specs.Prelude.{◌≡◌, ◌≤◌, ◌<◌, ◌^◌, [], ◌∷◌, ◌++◌, not, true, false, is_some, length, Some, IfOk, OnOk};
 ghost use Rattle.std.specs.Str.{chars, encode_utf8_all};
+ghost use Rattle.name_tables.specs.Names.{is_among, value_at};
+ghost use Rattle.name_tables.specs.Tables.{with_entry};
 ghost use Rattle.crac_model.specs.Naming.{branch_places, halves_of, is_x_node, is_joint, meets_once, is_tie, tie_between, tie_at, tie_named, named, grid_of};
 
 use fb_types::{Branch, BranchKind, Node, Text};
-use name_tables::{ValueTable, padded};
+use name_tables::{NameTable, ValueTable, padded};
 use std::alloc::{AllocError, Global};
 
 /// What a text names: a branch, or a tie line by its two halves, of which the first is measured.
@@ -34,6 +36,41 @@ pub struct GridNames<'a> {
     pub places: &'a ValueTable<u32>,
 }
 
+/// Adds a name, and says whether it is new.
+#[tactic(auto, using(crate::proofs::TableLaws::new_name))]
+pub fn add_name(alloc: Global, names: &mut NameTable, name: &str) -> Result<bool, AllocError>
+    ensures added { IfOk result (λ is_new. is_new ≡ not (is_among names.old name.now)) }
+    ensures names { IfOk result (λ is_new. is_new ≡ true → names.new ≡ names.old ++ name.now ∷ []) }
+{
+    names.add(String::from_str(alloc, name)?)
+}
+
+/// Notes the value of a name that has none.
+#[tactic(auto, using(crate::proofs::TableLaws::new_entry))]
+pub fn note_new<V: Copy + Drop>(
+    alloc: Global,
+    values: &mut ValueTable<V>,
+    name: &str,
+    value: V,
+) -> Result<(), AllocError>
+    requires { is_some (value_at values.old name.now) ≡ false }
+    ensures { OnOk result (values.new ≡ values.old ++ (name.now, value) ∷ []) }
+{
+    note(alloc, values, name, value)
+}
+
+/// Notes the value of a name, if it has none.
+pub fn note<V: Copy + Drop>(
+    alloc: Global,
+    values: &mut ValueTable<V>,
+    name: &str,
+    value: V,
+) -> Result<(), AllocError>
+    ensures { OnOk result (values.new ≡ with_entry values.old name.now value) }
+{
+    values.note(String::from_str(alloc, name)?, value)
+}
+
 /// The places of branches by their ids.
 pub fn branch_places(alloc: Global, branches: &[Branch]) -> Result<ValueTable<u32>, AllocError>
     requires { length branches.now < 2 ^ 32 }
@@ -42,7 +79,7 @@ pub fn branch_places(alloc: Global, branches: &[Branch]) -> Result<ValueTable<u3
     let mut places = ValueTable::new(alloc);
     let mut place: u32 = 0;
     for branch in branches {
-        places.note(String::from_str(alloc, branch.id.as_text())?, place)?;
+        note(alloc, &mut places, branch.id.as_text(), place)?;
         place += 1;
     }
     Ok(places)

@@ -8,7 +8,7 @@ ghost use Rattle.crac_model.specs.Naming.{places_of, grid_of};
 ghost use Rattle.crac_model.specs.Crac.{outage_of, branches_named, contingency_ids, contingency_of, contingency_list, contingencies_of};
 
 use crate::fault::CracKind;
-use crate::names::{GridNames, Named, find_named};
+use crate::names::{GridNames, Named, add_name, find_named, note};
 use fb_types::{Contingency, Items, Text};
 use json_reading::{Here, ItemReader, ReadError, array, required_array};
 use name_tables::{NameTable, ValueTable};
@@ -83,7 +83,7 @@ impl<'a> ItemReader for ContingencyReader<'a> {
 
     ghost keeps = { λ ids before. ids ≡ contingency_ids before };
 
-    #[tactic(auto, using(json_reading::proofs::Refused::refused), unfolding(crate::specs::Crac::contingency_of))]
+    #[tactic(auto, using(json_reading::proofs::Refused::refused, crate::proofs::TableLaws::push_contingency), unfolding(crate::specs::Crac::contingency_of))]
     fn read(
         &self,
         alloc: Global,
@@ -92,7 +92,7 @@ impl<'a> ItemReader for ContingencyReader<'a> {
         at: &Here<'_, CracKind>,
     ) -> Result<Option<Contingency>, ReadError<CracKind>> {
         let id = at.required_text(alloc, "id")?;
-        if !index.add(String::from_str(alloc, id)?)? {
+        if !add_name(alloc, index, id)? {
             return Err(at.fault_in(alloc, "id", CracKind::DuplicateId));
         }
         let reader = OutageReader { grid: self.grid };
@@ -117,7 +117,8 @@ fn contingency_list(
         return Err(at.fault(alloc, CracKind::TooMany));
     }
     let mut ids = NameTable::new(alloc);
-    array(alloc, &ContingencyReader { grid }, &mut ids, at)
+    let contingencies = array(alloc, &ContingencyReader { grid }, &mut ids, at)?;
+    Ok(contingencies)
 }
 
 /// The contingencies.
@@ -150,7 +151,7 @@ pub fn contingency_places(
     let mut places = ValueTable::new(alloc);
     let mut place: u32 = 0;
     for contingency in contingencies {
-        places.note(String::from_str(alloc, contingency.id.as_text())?, place)?;
+        note(alloc, &mut places, contingency.id.as_text(), place)?;
         place += 1;
     }
     Ok(places)

@@ -7,7 +7,7 @@ use Rattle.serde_json.specs.Find.{as_array}
 use Rattle.fb_json.specs.Tree.{listed, item_of, length_of}
 use Rattle.fb_json.specs.declared.document.Got.{Got}
 use Rattle.fb_json.specs.declared.document.Got.TheVariants.{Absent, Wrong, Value}
-use Rattle.json_reading.specs.Reading.{Fault, At, ◌>>=◌, entries_of, list_of, each, spots_from}
+use Rattle.json_reading.specs.Reading.{Fault, At, ◌>>=◌, here_read, here, entries_of, list_of, each, spots_from}
 use Rattle.json_reading.specs.Outcome.{Fails}
 use Rattle.json_reading.specs.declared.fault.ReadError.{ReadError}
 use Rattle.json_reading.specs.declared.fault.ReadError.TheVariants as errors
@@ -106,3 +106,12 @@ unfolding each
 is_done read before at k ds total le so_far =
     let one : each read before (spots_from k at (drop k ds)) ≡ each read before [] = at_drop_all (λ (xs : List Data). each read before (spots_from k at xs)) ds k le in
     sym so_far ∙ one
+
+measured_in : {K : Type 0} (at : At K) (o : Option Items) (n : ℕ) → here_read at (length_in o) ≡ Ok n → n ≡ length (entries_in o)
+measured_in at None n h = absurd cc
+measured_in at (Some ds) n h = cc
+
+-- the length that was read is that of the items
+pub measured : {K : Type 0} (at : At K) (n : ℕ) → here length_of at ≡ Ok n → n ≡ length (entries_of at.tree)
+unfolding here length_of entries_of
+measured at n h = measured_in at (as_array at.tree) n h
