@@ -14,3 +14,6 @@ mod reading;
 
 pub use fault::{CracError, CracKind};
 pub use reading::read_crac;
+
+#[cfg(test)]
+mod tests;

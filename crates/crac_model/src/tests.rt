@@ -1,0 +1,4 @@
+mod cases;
+mod documents;
+mod entries;
+mod grids;
