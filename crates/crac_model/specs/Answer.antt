@@ -1,7 +1,7 @@
 -- What the reader of a CRAC answers, against what the document says.
 use Rattle.std.specs.Prelude.{◌≡◌, ℕ, List, Result, Ok, Err}
 use Rattle.fb_types.specs.declared.crac.Crac.{Crac}
-use Rattle.json_reading.specs.Reading.{Fault, Reading}
+use Rattle.json_reading.specs.Reading.{Reading}
 use Rattle.json_reading.specs.declared.fault.ReadError.{ReadError}
 use Rattle.json_reading.specs.declared.fault.ReadError.TheVariants as readings
 use Rattle.crac_model.specs.declared.fault.CracKind.{CracKind}

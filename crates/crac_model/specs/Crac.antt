@@ -10,7 +10,6 @@ use Rattle.fb_types.specs.declared.crac.Element.{Element}
 use Rattle.fb_types.specs.declared.crac.Crac.{Crac}
 use Rattle.fb_types.specs.declared.grid.Node.{Node}
 use Rattle.fb_types.specs.declared.grid.Branch.{Branch}
-use Rattle.fb_types.specs.declared.grid.BranchKind.{BranchKind}
 use Rattle.name_tables.specs.Names.{is_among, value_at}
 use Rattle.json_reading.specs.Reading.{At, Reading, ◌>>=◌, fault_here, fault_in, unless, known, has, required, optional, here, is_true, absent, spot, array, optional_array, required_array}
 use Rattle.crac_model.specs.Words.{word_is, instant_kind, is_preventive, is_within}

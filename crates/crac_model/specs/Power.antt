@@ -1,6 +1,6 @@
 -- The power that a current carries at a voltage in three phases: the square root of 3 times their product. Currents are in
 -- milliamperes, voltages in volts, powers in watts.
-use Rattle.std.specs.Prelude.{◌≡◌, ℕ, zero, suc, ◌+◌, ◌*◌, ◌^◌, ◌<◌, ◌≤◌, nat_le, Bool, true, IsTrue, ℤ, pos, negsuc, if◌then◌else◌}
+use Rattle.std.specs.Prelude.{ℕ, zero, suc, ◌+◌, ◌*◌, ◌^◌, ◌<◌, ◌≤◌, nat_le, Bool, ℤ, pos, negsuc, if◌then◌else◌}
 
 -- every limit above 10^11 W counts as 10^11 W
 abbrev pub most_watts : ℕ

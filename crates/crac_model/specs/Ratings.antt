@@ -1,6 +1,6 @@
 -- What the limits of an element rest on: the currents and the voltages at its two sides. Currents of the document are in
 -- millionths of an ampere and voltages in millionths of a kilovolt; currents of the grid are in milliamperes.
-use Rattle.std.specs.Prelude.{ℕ, ℤ, pos, nat_abs, ◌*ℤ◌, int_div, ◌/◌, ◌==◌, ◌||◌, not, nat_lt, List, [], ◌∷◌, slice_get, slice_index, Option, Some, None, Ok}
+use Rattle.std.specs.Prelude.{ℕ, ℤ, pos, nat_abs, ◌*ℤ◌, ◌/◌, ◌==◌, ◌||◌, not, nat_lt, List, [], ◌∷◌, slice_get, slice_index, Option, Some, None, Ok}
 use Rattle.std.specs.Option.{option_map, option_map_or}
 use Rattle.fb_json.specs.Tree.{decimal_of, length_of}
 use Rattle.fb_json.specs.declared.document.Got.{Got}

@@ -1,7 +1,7 @@
 -- The thresholds of an element: limits of its flow in the two directions, in watts.
 use Rattle.std.specs.Prelude.{ℕ, ℤ, pos, neg_ℤ, ◌*ℤ◌, int_div, ◌^◌, Bool, true, not, ◌&&◌, List, [], ◌∷◌, Option, Some, None, Ok, unwrap_or, is_none, codes, int_lt, if◌then◌else◌}
 use Rattle.std.specs.Int.{int_min}
-use Rattle.std.specs.Option.{option_map, option_map_or}
+use Rattle.std.specs.Option.{option_map}
 use Rattle.std.specs.Str.{bytes_eq}
 use Rattle.serde_json.specs.Data.{Data}
 use Rattle.fb_json.specs.Tree.{text_of, decimal_of}

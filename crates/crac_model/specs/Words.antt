@@ -1,5 +1,5 @@
 -- The words of a CRAC document.
-use Rattle.std.specs.Prelude.{ℕ, ℤ, pos, Bool, true, false, ◌&&◌, ◌==◌, List, Option, Some, None, ⊤, codes, if◌then◌else◌, int_le}
+use Rattle.std.specs.Prelude.{ℕ, ℤ, Bool, true, false, ◌&&◌, List, Option, Some, None, ⊤, codes, if◌then◌else◌, int_le}
 use Rattle.std.specs.Str.{bytes_eq}
 use Rattle.crac_model.specs.declared.instants.InstantKind.{InstantKind}
 use Rattle.crac_model.specs.declared.instants.InstantKind.TheVariants.{Preventive, Outage, Auto, Curative}

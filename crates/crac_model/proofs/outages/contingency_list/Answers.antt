@@ -1,4 +1,4 @@
-use Rattle.std.proofs.Common.{sym, arith}
+use Rattle.std.proofs.Common.{arith}
 use Rattle.json_reading.proofs.Entries.{measured}
 use Rattle.crac_model.proofs.outages.contingency_list.Goals as goal
 

@@ -1,5 +1,4 @@
-use Rattle.std.proofs.Common.{◌≡◌, ◌*◌, ◌^◌, ◌<◌, ◌≤◌, false}
-use Rattle.crac_model.specs.Power.{most_watts, squared_power, is_carried}
+use Rattle.std.proofs.Common.{◌*◌, ◌^◌, ◌≤◌}
 use Rattle.crac_model.proofs.PowerLaws.{nothing_carried, much_carried, great_current, found_carried}
 use Rattle.crac_model.proofs.power.power.Goals as goal
 
