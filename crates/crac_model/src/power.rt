@@ -1,6 +1,6 @@
 //! The power that a current carries at a voltage.
 
-ghost use Rattle.std.specs.Prelude.{◌≡◌, ◌+◌, ◌*◌, ◌<◌, ◌≤◌, ◌^◌, true, false, pos};
+ghost use Rattle.std.specs.Prelude.{◌≡◌, ◌+◌, ◌*◌, ◌<◌, ◌≤◌, ◌^◌, true, false, pos, ◌≤ℤ◌, unsigned_abs};
 ghost use Rattle.crac_model.specs.Power.{most_watts, squared_power, is_carried, power_of, IsPower, carried};
 
 /// Every limit above 10^11 W counts as 10^11 W.
@@ -66,6 +66,7 @@ fn power(current: u128, voltage: u64) -> u64
 /// The same of a current of either sign: one that is not positive carries nothing.
 pub fn carried(current: i128, voltage: u64) -> u64
     ensures watts { result ≡ carried current voltage }
+    ensures inequality { pos 0 ≤ℤ current → IsPower (unsigned_abs current) voltage result }
     ensures most { result ≤ most_watts }
 {
     if current < 0 {
