@@ -2,5 +2,9 @@
 #![tactic(auto)]
 
 mod model;
+mod nodes;
+mod times;
 
 pub use model::{Settings, Zone};
+pub use nodes::NodeTable;
+pub use times::{instant, moment_of};
