@@ -1,11 +1,15 @@
-//! Tables as CSV text (RFC 4180), as the crate `csv` writes it: fields between commas, each record ended by a line feed, a
-//! field with a comma, a quotation mark, a line feed or a carriage return quoted.
+//! Tables as CSV text (RFC 4180), as the crate `csv` writes and reads it. Written: fields between commas, each record ended by
+//! a line feed, a field with a comma, a quotation mark, a line feed or a carriage return quoted. Read: a byte order mark at
+//! the start is dropped, a line feed, a carriage return or both end a record, empty lines are no records, and records may
+//! have any number of fields.
 #![tactic(auto)]
 
-ghost use Rattle.std.specs.Prelude.{◌≡◌, ◌++◌, map, IfOk, OnOk, OnErr};
+ghost use Rattle.std.specs.Prelude.{◌≡◌, ◌∷◌, ◌++◌, [], map, true, false, IfOk, OnOk, OnErr};
+ghost use Rattle.csv.specs.Records.{fields_of};
+ghost use Rattle.csv_rows.specs.Rows.{rows_of, rows_left, IsAtRow};
 ghost use Rattle.csv_rows.specs.Tables.{record_text};
 
-use csv::{Error, WriterBuilder};
+use csv::{ByteRecord, Error, Reader, ReaderBuilder, WriterBuilder};
 use std::alloc::{AllocError, Global};
 
 /// The text of one record.
@@ -29,4 +33,29 @@ pub fn put_row(alloc: Global, out: &mut Vec<u8>, fields: &[&[u8]]) -> Result<(),
         Ok(text) => out.extend_from_slice(&text),
         Err(_) => Err(AllocError),
     }
+}
+
+/// A reader of the records of the text, at the first of them.
+pub fn rows(alloc: Global, text: &[u8]) -> Reader<&[u8]>
+    ensures at_row { IsAtRow result }
+    ensures all { rows_left result ≡ rows_of text.now }
+{
+    ReaderBuilder::new()
+        .has_headers(false)
+        .flexible(true)
+        .from_reader(alloc, text)
+}
+
+/// Reads the next record into `row`, or says that none is left. Over a slice there is no other error than want of memory;
+/// whatever the reader below answers is taken for one.
+pub fn next_row(reader: &mut Reader<&[u8]>, row: &mut ByteRecord) -> Result<bool, AllocError>
+    requires { IsAtRow reader.old }
+    ensures some { IfOk result (λ found. found ≡ true → rows_left reader.old ≡ fields_of row.new ∷ rows_left reader.new) }
+    ensures at_row { IfOk result (λ found. found ≡ true → IsAtRow reader.new) }
+    ensures none { IfOk result (λ found. found ≡ false → rows_left reader.old ≡ []) }
+{
+    let Ok(found) = reader.read_byte_record(row) else {
+        return Err(AllocError);
+    };
+    Ok(found)
 }

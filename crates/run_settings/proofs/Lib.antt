@@ -1,1 +1,6 @@
+pub mod AnswerLaws
+pub mod CodeLaws
 pub mod PlaceLaws
+pub mod PointLaws
+pub mod SettingsLaws
+pub mod TotalLaws

@@ -1,3 +1,9 @@
+pub mod Codes
+pub mod Laws
 pub mod Nodes
 pub mod Places
+pub mod Settings
 pub mod Times
+pub mod Totals
+pub mod Views
+pub mod Zones

@@ -1,4 +1,4 @@
-//! What the settings of a run say.
+//! What the settings of a run say, and why they are not read.
 
 use fb_types::{Bounds, Items, Text};
 use jiff::Timestamp;
@@ -29,4 +29,32 @@ pub struct Settings {
     pub threshold: u16,
     /// The slack node, by its place in the grid's list, if the document names one.
     pub slack: Option<u32>,
+}
+
+/// What is wrong with a settings document.
+#[derive(Clone, Copy, Debug, PartialEq, Eq)]
+pub enum SettingsKind {
+    /// A member that must be there is not, or there is no zone, or no Core zone.
+    Missing,
+    /// A member or an item has another form than it must have.
+    WrongType,
+    /// A least net position is above the greatest, of a zone or of all zones together.
+    BoxReversed,
+    /// A number is outside its range.
+    OutOfRange,
+    /// The grid has no node of this code.
+    UnknownNode,
+    /// A text is no instant.
+    BadTime,
+    /// An id of a zone, or a code, stood before.
+    Twice,
+    /// There are more than 64 zones.
+    TooMany,
+}
+
+/// Why settings are not read: the document's one first fault and its place, or want of memory.
+#[derive(Debug, Drop)]
+pub enum SettingsError {
+    Fault { place: Text, kind: SettingsKind },
+    Memory(AllocError),
 }
