@@ -2,5 +2,6 @@ pub mod AnswerLaws
 pub mod CodeLaws
 pub mod PlaceLaws
 pub mod PointLaws
+pub mod RecordLaws
 pub mod SettingsLaws
 pub mod TotalLaws

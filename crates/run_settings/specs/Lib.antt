@@ -2,6 +2,8 @@ pub mod Codes
 pub mod Laws
 pub mod Nodes
 pub mod Places
+pub mod Records
+pub mod Reductions
 pub mod Settings
 pub mod Times
 pub mod Totals
