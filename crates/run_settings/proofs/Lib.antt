@@ -3,5 +3,7 @@ pub mod CodeLaws
 pub mod PlaceLaws
 pub mod PointLaws
 pub mod RecordLaws
+pub mod ReductionLaws
 pub mod SettingsLaws
+pub mod TestLaws
 pub mod TotalLaws

@@ -1,5 +1,5 @@
 -- The records of a reductions document, one more at a time, and the document's first fault from theirs.
-use Rattle.std.proofs.Common.{◌≡◌, ℕ, suc, ◌+◌, Bool, true, false, cond, List, [], ◌∷◌, ◌++◌, length, map, drop, Option, Some, None, Result, Ok, Err, refl, sym, ap, ◌∙◌, subst, arith, append_assoc, append-nil, length-append}
+use Rattle.std.proofs.Common.{◌≡◌, ℕ, ◌+◌, Bool, true, false, cond, List, [], ◌∷◌, ◌++◌, length, map, drop, Some, None, Result, Ok, Err, refl, sym, ap, ◌∙◌, subst, arith, append_assoc, append-nil, length-append}
 use Rattle.std.specs.Bool.{beq}
 use Rattle.std.specs.List.{filter}
 use Rattle.std.proofs.lemmas.List.{map_push, map-append}
@@ -9,7 +9,7 @@ use Rattle.fb_types.specs.declared.crac.Element.{Element}
 use Rattle.first_fault.specs.FirstFault.{IsFirstFault, HasNoFault}
 use Rattle.first_fault.proofs.FirstFaultLaws.{HasNoFault-nil, HasNoFault-push, IsFirstFault-same, IsFirstFault-fault}
 use Rattle.run_settings.specs.Records.{Reads, IsRowFault, ReadsRecords, HasHeader, HasNoHeader, JudgesAt, with_id, with_row, fault_among, AreTaken}
-use Rattle.run_settings.specs.Reductions.{Row, field_in, is_opposite, ids_in, named_by, record_fault, reduction_in, is_header, row_fault, some_rows, document_rows, IsReductionFault, HasNoReductionFault}
+use Rattle.run_settings.specs.Reductions.{Row, field_in, is_opposite, ids_in, named_by, record_fault, reduction_in, is_header, row_fault, some_rows, document_rows, IsReductionFault}
 use Rattle.run_settings.specs.declared.named.Named.{Named}
 use Rattle.run_settings.specs.declared.reduction.Reduction.{Reduction}
 use Rattle.run_settings.specs.declared.reduction.ReductionKind.{ReductionKind}

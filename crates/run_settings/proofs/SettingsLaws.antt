@@ -1,6 +1,6 @@
 -- What holds of settings that were read.
 use Rattle.std.proofs.Common.{◌≡◌, ℕ, suc, ◌+◌, ◌^◌, ◌/◌, ◌<◌, ◌≤◌, Bool, true, false, cond, List, [], ◌∷◌, ◌++◌, length, Option, Some, None, Ok, ℤ, pos, refl, sym, ap, ◌∙◌, subst, arith}
-use Rattle.std.specs.Prelude.{◌≤ℤ◌, ◌&&◌, ◌||◌, ◌==◌, not, codes, unwrap_or, nat_abs, nat_lt, int_lt, int_le, IfSome}
+use Rattle.std.specs.Prelude.{◌≤ℤ◌, ◌||◌, ◌==◌, not, codes, unwrap_or, nat_abs, nat_lt, int_lt, IfSome}
 use Rattle.std.specs.Option.{option_to_list}
 use Rattle.std.specs.Str.{bytes_eq}
 use Rattle.std.proofs.lemmas.Int.{ints}
@@ -27,27 +27,7 @@ use Rattle.run_settings.specs.declared.model.SettingsKind.TheVariants.{Missing, 
 use Rattle.run_settings.specs.declared.model.Zone.{Zone}
 use Rattle.run_settings.proofs.CodeLaws.{distinct-push, none_distinct, zone_distinct}
 use Rattle.run_settings.proofs.PointLaws.{core_point}
-
--- ---- tests
-
-both : (a b : Bool) → not (a && b) ≡ false → (a ≡ true) × (b ≡ true)
-both true true e = (refl, refl)
-both true false e = absurd cc
-both false b e = absurd cc
-
-neither : (a b : Bool) → (a || b) ≡ false → (a ≡ false) × (b ≡ false)
-neither true b e = absurd cc
-neither false b e = (refl, e)
-
-not_not : (a : Bool) → not a ≡ false → a ≡ true
-not_not true e = refl
-not_not false e = absurd cc
-
-at_most : (a b : ℤ) → int_le a b ≡ true → a ≤ℤ b
-at_most a b e = grind (arith, ints)
-
-not_below : (a b : ℤ) → int_lt a b ≡ false → b ≤ℤ a
-not_below a b e = grind (arith, ints)
+use Rattle.run_settings.proofs.TestLaws.{both, neither, not_not, at_most, not_below}
 
 -- ---- bounds
 
@@ -57,7 +37,7 @@ bound_ok name at watts e =
     let number = bind_ok (required decimal_of name at) _ watts e in
     let z : ℤ = number.0.millionths in
     let fits = bind_ok (unless (not (is_bound z)) (fault_in name OutOfRange at)) _ watts number.2 in
-    let ends = both _ _ (unless_ok (not (is_bound z)) (in_member at.place name) OutOfRange fits.0 fits.1) in
+    let ends = both _ _ (not_not (is_bound z) (unless_ok (not (is_bound z)) (in_member at.place name) OutOfRange fits.0 fits.1)) in
     let same : z ≡ watts = cc in
     subst (IsWithin (10 ^ 11)) same (record { low = at_most _ z ends.0; high = at_most z _ ends.1 })
 
@@ -160,7 +140,7 @@ permille_or_ok default name at (Some d) n e h =
     let z : ℤ = d.millionths in
     let whole = bind_ok (unless (not (is_whole z)) (fault_in name WrongType at)) _ n e in
     let fits = bind_ok (unless (not (is_permille z)) (fault_in name OutOfRange at)) _ n whole.2 in
-    let ends = both _ _ (unless_ok (not (is_permille z)) (in_member at.place name) OutOfRange fits.0 fits.1) in
+    let ends = both _ _ (not_not (is_permille z) (unless_ok (not (is_permille z)) (in_member at.place name) OutOfRange fits.0 fits.1)) in
     let same : nat_abs z / 10 ^ 6 ≡ n = cc in
     subst (λ (k : ℕ). k ≤ 1000) same (div_small (nat_abs z) (permille_small z (at_most _ z ends.0) (at_most z _ ends.1)))
 

@@ -3,6 +3,7 @@ pub mod Laws
 pub mod Nodes
 pub mod Places
 pub mod Records
+pub mod ReductionLaws
 pub mod Reductions
 pub mod Settings
 pub mod Times

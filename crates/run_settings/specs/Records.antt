@@ -1,7 +1,6 @@
 -- How the records are gone over, and what the answer says. Reads, IsRowFault and AreReductions are of public contracts; nobody
 -- need believe the rest.
 use Rattle.std.specs.Prelude.{◌≡◌, ℕ, ◌+◌, Bool, true, false, List, [], ◌∷◌, ◌++◌, length, map, Option, Some, None, Result, Ok, Err}
-use Rattle.csv_rows.specs.Rows.{rows_left, IsAtRow}
 use Rattle.fb_types.specs.declared.crac.Element.{Element}
 use Rattle.first_fault.specs.FirstFault.{IsFirstFault, HasNoFault}
 use Rattle.run_settings.specs.Reductions.{Row, field_in, is_opposite, is_formed, direction_in, watts_in, named_by, record_fault, reduction_in, is_header, some_rows, IsReductionFault, HasNoReductionFault, reductions_of}

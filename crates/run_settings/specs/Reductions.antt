@@ -1,6 +1,6 @@
 -- What a reductions document says of the elements of a CRAC, or its first fault. Its rows are the records of the CSV text,
 -- counted from 1: row 1 is the header, each further row a record.
-use Rattle.std.specs.Prelude.{◌≡◌, ℕ, ℤ, pos, ◌==◌, ◌&&◌, ◌^◌, Bool, true, false, not, List, [], ◌∷◌, length, map, drop, Option, Some, None, Result, Ok, Err, is_some, is_none, unwrap_or, codes, slice_get, int_le, if◌then◌else◌}
+use Rattle.std.specs.Prelude.{ℕ, ℤ, pos, ◌==◌, ◌&&◌, ◌^◌, Bool, true, false, not, List, [], ◌∷◌, length, map, drop, Option, Some, None, Result, Ok, Err, is_some, is_none, unwrap_or, codes, slice_get, int_le, if◌then◌else◌}
 use Rattle.std.specs.Bool.{beq}
 use Rattle.std.specs.List.{filter}
 use Rattle.std.specs.Str.{bytes_eq, is_utf8}

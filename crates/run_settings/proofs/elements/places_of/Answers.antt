@@ -1,4 +1,4 @@
-use Rattle.std.proofs.Common.{◌≡◌, ℕ, List, ap, ◌∙◌}
+use Rattle.std.proofs.Common.{ℕ, List, ap, ◌∙◌}
 use Rattle.name_tables.specs.Tables.{with_entry}
 use Rattle.fb_types.specs.declared.crac.Element.{Element}
 use Rattle.run_settings.specs.Reductions.{element_ids}
