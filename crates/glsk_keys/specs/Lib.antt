@@ -1,0 +1,11 @@
+pub mod Zones
+pub mod Measures
+pub mod Scaling
+pub mod Sizes
+pub mod Document
+pub mod Columns
+pub mod Facts
+pub mod Homes
+pub mod Placing
+pub mod Answer
+pub mod Laws
