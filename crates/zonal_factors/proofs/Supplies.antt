@@ -24,7 +24,7 @@ absent_sum (suc n) m x h =
     let here : cond (eqb m n) x (pos 0) ≡ pos 0 = cond-false {A = ℤ} (eqb m n) x (pos 0) ne in
     omega (arith, linear, rest, here)
 
-one_sum : (n m : ℕ) (x : ℤ) → pos 0 ≤ℤ x → sum_below n (λ k. if m == k then x else pos 0) ≤ℤ x
+pub one_sum : (n m : ℕ) (x : ℤ) → pos 0 ≤ℤ x → sum_below n (λ k. if m == k then x else pos 0) ≤ℤ x
 one_sum zero m x h = omega (arith, linear, h)
 one_sum (suc n) m x h =
     ⊎_elim (λ same.
@@ -57,7 +57,7 @@ nodes_sum n ws h =
     omega (arith, linear, swapped, each)
 
 -- and by classes
-classes_sum : (s : GridState) (f : ℕ → ℤ) → ((n : ℕ) → pos 0 ≤ℤ f n) → sum_below (classes_of s) (of_class s f) ≤ℤ sum_below (length s.class_of) f
+pub classes_sum : (s : GridState) (f : ℕ → ℤ) → ((n : ℕ) → pos 0 ≤ℤ f n) → sum_below (classes_of s) (of_class s f) ≤ℤ sum_below (length s.class_of) f
 classes_sum s f nonnegative =
     let swapped = sum_below-swap (classes_of s) (length s.class_of) (λ c n. if class_at s n == c then f n else pos 0) in
     let each = sum_below-mono (length s.class_of) (λ n. sum_below (classes_of s) (λ c. if class_at s n == c then f n else pos 0)) f (λ n l. one_sum (classes_of s) (class_at s n) (f n) (nonnegative n)) in

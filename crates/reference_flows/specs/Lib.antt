@@ -1,0 +1,2 @@
+pub mod WithoutExchanges
+pub mod ReferenceSpans
