@@ -1,0 +1,6 @@
+//! The numbers of one row of a domain, put together: a monitored element in one direction, in one grid state.
+#![tactic(auto)]
+
+mod types;
+
+pub use types::{RowProof, RowSpans, RowTerms, RowZones};

@@ -1,0 +1,8 @@
+//! Certificates of domains: what a domain is computed from, its rows, and what is proved of each grid state.
+#![tactic(auto)]
+
+mod types;
+
+pub use cnec_rows::{RowProof, RowSpans};
+pub use state_proofs::StateProof;
+pub use types::{Certificate, Cite, Inputs};
