@@ -8,7 +8,8 @@ use Rattle.grid_state.specs.GridState.{GridState}
 use Rattle.row_numbers.specs.Spreads.{IsSelected}
 use Rattle.row_security.specs.Rows.{Row, KeyedZone, Choice, IsChoice, PointChoice, row_flow_at, top_of_row, spread_of_row}
 use Rattle.run_settings.specs.Laws.{core_bounds}
-use Rattle.cnec_rows.specs.RowNumbers.{row_on, keyed_zones, IsRightRow}
+use Rattle.cnec_rows.specs.RowNumbers.{row_on, keyed_zones, HoldNumbers, IsRightRow}
+use Rattle.cnec_rows.specs.declared.types.RowSpans.{RowSpans}
 use Rattle.cnec_rows.specs.declared.types.RowProof.{RowProof}
 use Rattle.fb_certificate.specs.CracRows.{CracRow, crac_rows}
 use Rattle.fb_certificate.specs.Whole.{row_zones}
@@ -60,6 +61,11 @@ abbrev pub IsRight : Inputs → CracRow → RowProof → Type 0
 IsRight inputs row numbers =
     (place : RowPlace) → IsPlaceOf inputs row place
     → IsRightRow place.state inputs.grid inputs.keys.columns (row_zones inputs.settings inputs.keys) (exact_row inputs row place) inputs.settings.threshold numbers
+
+-- the spans of a row hold its exact numbers
+abbrev pub HoldRow : Inputs → CracRow → RowSpans → Type 0
+HoldRow inputs row spans =
+    (place : RowPlace) → IsPlaceOf inputs row place → HoldNumbers place.state inputs.grid (zones_in inputs) (exact_row inputs row place) spans
 
 -- The capacity theorem: every balanced list of net positions in the box that meets the kept inner rows is secure, and every
 -- secure one meets all outer rows.
