@@ -41,6 +41,7 @@ pub record Choice : Type 0 where
 -- they are angles of the state, for these zones
 pub record IsChoice (s : GridState) (grid : Grid) (zones : List KeyedZone) (choice : Choice) : Type 0 where
   pub reference : AreAnglesOf s (base_balance s grid) choice.reference
+  -- one for each zone, in their order
   pub same_zones : map (λ z. z.zone) choice.zones ≡ zones
   pub blocks : All (λ z. AreAnglesOfKey s z.zone.key z.blocks) choice.zones
 
