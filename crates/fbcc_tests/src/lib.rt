@@ -4,6 +4,8 @@
 #[cfg(test)]
 mod calls;
 #[cfg(test)]
+mod domain;
+#[cfg(test)]
 mod net;
 #[cfg(test)]
 mod rows;

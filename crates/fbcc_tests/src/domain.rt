@@ -1,0 +1,614 @@
+//! The command `domain`: tables that were worked out by hand, refusals in their order, and an outside that fails.
+
+use crate::calls::{Answer, call, call_into};
+use fb_base::{MemShelf, MemSink};
+use fbcc_core::{Document, Fault};
+use std::alloc::{AllocError, Global};
+use std::test::Fail;
+
+const WORDS: [&str; 9] = [
+    "domain",
+    "--grid",
+    "grid.uct",
+    "--crac",
+    "crac.json",
+    "--glsk",
+    "glsk.json",
+    "--settings",
+    "settings.json",
+];
+
+const REDUCED: [&str; 11] = [
+    "domain",
+    "--grid",
+    "grid.uct",
+    "--crac",
+    "crac.json",
+    "--glsk",
+    "glsk.json",
+    "--settings",
+    "settings.json",
+    "--reductions",
+    "reductions.csv",
+];
+
+// ---- Grids: Belgium at the slack node, the Netherlands, and France.
+
+const BE: &str =
+    "##C 2007.05.01\n##N\n##ZBE\nBBE1AA1  BE1          0 3 380.00    0.00    0.00    0.00\n";
+
+const BE_TWICE: &str =
+    "##C 2007.05.01\n##N\n##ZBE\nBBE1AA1  BE1          0 3 380.00    0.00    0.00    0.00\nBBE1AB1  BE2          0 0 380.00    0.00    0.00    0.00\n";
+
+const NL: &str = "##ZNL\nNNL1AA1  NL1          0 0 380.00    0.00    0.00    0.00\n";
+
+const FR: &str = "##ZFR\nFFR1AA1  FR1          0 0 380.00    0.00    0.00    0.00\n";
+
+const LOADED_FR: &str = "##ZFR\nFFR1AA1  FR1          0 0 380.00   10.00    0.00    0.00\n";
+
+const CROSSING: &str = "##ZXX\nXBENL11  X1           0 0 380.00    0.00    0.00    0.00\n";
+
+/// A line of 10^7 kW/rad, between the first two nodes.
+const LINE: &str = "##L\nBBE1AA1  NNL1AA1  1 0 0.0000 14.440 0.000000   2000\n";
+
+const TRIANGLE: &str =
+    "##L\nBBE1AA1  NNL1AA1  1 0 0.0000 14.440 0.000000   2000\nBBE1AA1  FFR1AA1  1 0 0.0000 14.440 0.000000   2000\nNNL1AA1  FFR1AA1  1 0 0.0000 14.440 0.000000   2000\n";
+
+const CHAIN: &str =
+    "##L\nBBE1AA1  NNL1AA1  1 0 0.0000 14.440 0.000000   2000\nNNL1AA1  FFR1AA1  1 0 0.0000 14.440 0.000000   2000\n";
+
+const COUPLED: &str =
+    "##L\nBBE1AA1  BBE1AB1  1 2\nBBE1AA1  NNL1AA1  1 0 0.0000 14.440 0.000000   2000\nBBE1AB1  NNL1AA1  1 0 0.0000 14.440 0.000000   2000\n";
+
+const TIE: &str =
+    "##L\nBBE1AA1  XBENL11  1 0 0.0000 7.2200 0.000000   2000\nXBENL11  NNL1AA1  1 0 0.0000 7.2200 0.000000   2000\nBBE1AA1  NNL1AA1  1 0 0.0000 14.440 0.000000   2000\n";
+
+/// A reactance of 0, which is raised to 0.05 ohm: 2,888,000,000 kW/rad.
+const FLOORED: &str = "##L\nBBE1AA1  NNL1AA1  1 0 0.0000 0.0000 0.000000   2000\n";
+
+/// Two lines of which the second takes a twentieth: exactly by whole angles, and not.
+const TWENTIETH: &str =
+    "##L\nBBE1AA1  NNL1AA1  1 0 0.0000 7.6000 0.000000   2000\nBBE1AA1  NNL1AA1  2 0 0.0000 144.40 0.000000   2000\n";
+
+const NEAR_TWENTIETH: &str =
+    "##L\nBBE1AA1  NNL1AA1  1 0 0.0000 0.0500 0.000000   2000\nBBE1AA1  NNL1AA1  2 0 0.0000 0.9500 0.000000   2000\n";
+
+// ---- Elements
+
+const BASE: [&str; 3] = [
+    "\"contingencies\":[],\"flowCnecs\":[",
+    "{\"id\":\"c1\",\"networkElementId\":\"BBE1AA1  NNL1AA1  1\",\"instant\":\"preventive\",\"optimized\":true,\"thresholds\":[{\"unit\":\"megawatt\",\"min\":-500,\"max\":500}]}",
+    "]}",
+];
+
+const ON_SECOND: [&str; 3] = [
+    "\"contingencies\":[],\"flowCnecs\":[",
+    "{\"id\":\"c1\",\"networkElementId\":\"BBE1AA1  NNL1AA1  2\",\"instant\":\"preventive\",\"optimized\":true,\"thresholds\":[{\"unit\":\"megawatt\",\"min\":-500,\"max\":500}]}",
+    "]}",
+];
+
+const ON_TIE: [&str; 3] = [
+    "\"contingencies\":[],\"flowCnecs\":[",
+    "{\"id\":\"c1\",\"networkElementId\":\"BBE1AA1  XBENL11  1 + XBENL11  NNL1AA1  1\",\"instant\":\"preventive\",\"optimized\":true,\"thresholds\":[{\"unit\":\"megawatt\",\"max\":500}]}",
+    "]}",
+];
+
+const ON_TURNED_TIE: [&str; 3] = [
+    "\"contingencies\":[],\"flowCnecs\":[",
+    "{\"id\":\"c1\",\"networkElementId\":\"XBENL11  NNL1AA1  1 + BBE1AA1  XBENL11  1\",\"instant\":\"preventive\",\"optimized\":true,\"thresholds\":[{\"unit\":\"megawatt\",\"max\":500}]}",
+    "]}",
+];
+
+const AFTER_TIE: [&str; 3] = [
+    "\"contingencies\":[{\"id\":\"co1\",\"networkElementsIds\":[\"BBE1AA1  XBENL11  1 + XBENL11  NNL1AA1  1\"]}],\"flowCnecs\":[",
+    "{\"id\":\"c1\",\"networkElementId\":\"BBE1AA1  NNL1AA1  1\",\"instant\":\"outage\",\"contingencyId\":\"co1\",\"optimized\":true,\"thresholds\":[{\"unit\":\"megawatt\",\"max\":500}]}",
+    "]}",
+];
+
+/// The first contingency is named by no element, so the second one makes state 1.
+const AFTER_FRANCE: [&str; 3] = [
+    "\"contingencies\":[{\"id\":\"co0\",\"networkElementsIds\":[\"BBE1AA1  NNL1AA1  1\"]},{\"id\":\"co1\",\"networkElementsIds\":[\"BBE1AA1  FFR1AA1  1\"]}],\"flowCnecs\":[",
+    "{\"id\":\"c1\",\"networkElementId\":\"BBE1AA1  NNL1AA1  1\",\"instant\":\"outage\",\"contingencyId\":\"co1\",\"optimized\":true,\"thresholds\":[{\"unit\":\"megawatt\",\"max\":500}]}",
+    "]}",
+];
+
+const AFTER_COUPLER: [&str; 3] = [
+    "\"contingencies\":[{\"id\":\"co1\",\"networkElementsIds\":[\"BBE1AA1  BBE1AB1  1\"]}],\"flowCnecs\":[",
+    "{\"id\":\"c1\",\"networkElementId\":\"BBE1AA1  NNL1AA1  1\",\"instant\":\"preventive\",\"optimized\":true,\"thresholds\":[{\"unit\":\"megawatt\",\"max\":500}]},{\"id\":\"c2\",\"networkElementId\":\"BBE1AA1  NNL1AA1  1\",\"instant\":\"outage\",\"contingencyId\":\"co1\",\"optimized\":true,\"thresholds\":[{\"unit\":\"megawatt\",\"max\":500}]}",
+    "]}",
+];
+
+const AFTER_CHAIN: [&str; 3] = [
+    "\"contingencies\":[{\"id\":\"co1\",\"networkElementsIds\":[\"NNL1AA1  FFR1AA1  1\"]}],\"flowCnecs\":[",
+    "{\"id\":\"c1\",\"networkElementId\":\"BBE1AA1  NNL1AA1  1\",\"instant\":\"outage\",\"contingencyId\":\"co1\",\"optimized\":true,\"thresholds\":[{\"unit\":\"megawatt\",\"max\":500}]}",
+    "]}",
+];
+
+const HEAD_OF_CRAC: &str =
+    "{\"type\":\"CRAC\",\"version\":\"2.5\",\"instants\":[{\"id\":\"preventive\",\"kind\":\"PREVENTIVE\"},{\"id\":\"outage\",\"kind\":\"OUTAGE\"}],";
+
+// ---- Zones
+
+const TWO: &str =
+    "{\"moment\":\"2024-05-01T10:30:00Z\",\"zones\":[{\"id\":\"BE\",\"min\":-1000,\"max\":1000},{\"id\":\"NL\",\"min\":-1000,\"max\":1000}]}";
+
+const THREE: &str =
+    "{\"moment\":\"2024-05-01T10:30:00Z\",\"zones\":[{\"id\":\"BE\",\"min\":-1000,\"max\":1000},{\"id\":\"NL\",\"min\":-1000,\"max\":1000},{\"id\":\"FR\",\"min\":-1000,\"max\":1000}]}";
+
+const HIGH_THRESHOLD: &str =
+    "{\"moment\":\"2024-05-01T10:30:00Z\",\"thresholdPermille\":667,\"zones\":[{\"id\":\"BE\",\"min\":-1000,\"max\":1000},{\"id\":\"NL\",\"min\":-1000,\"max\":1000},{\"id\":\"FR\",\"min\":-1000,\"max\":1000}]}";
+
+const KEYS_OF_TWO: &str =
+    "{\"series\":[{\"zone\":\"BE\",\"from\":\"2024-05-01T00:00:00Z\",\"to\":\"2024-05-02T00:00:00Z\",\"blocks\":[{\"business\":\"GSK\",\"share\":100,\"kind\":\"country\"}]},{\"zone\":\"NL\",\"from\":\"2024-05-01T00:00:00Z\",\"to\":\"2024-05-02T00:00:00Z\",\"blocks\":[{\"business\":\"GSK\",\"share\":100,\"kind\":\"country\"}]}]}";
+
+const KEYS_OF_THREE: &str =
+    "{\"series\":[{\"zone\":\"BE\",\"from\":\"2024-05-01T00:00:00Z\",\"to\":\"2024-05-02T00:00:00Z\",\"blocks\":[{\"business\":\"GSK\",\"share\":100,\"kind\":\"country\"}]},{\"zone\":\"NL\",\"from\":\"2024-05-01T00:00:00Z\",\"to\":\"2024-05-02T00:00:00Z\",\"blocks\":[{\"business\":\"GSK\",\"share\":100,\"kind\":\"country\"}]},{\"zone\":\"FR\",\"from\":\"2024-05-01T00:00:00Z\",\"to\":\"2024-05-02T00:00:00Z\",\"blocks\":[{\"business\":\"GSK\",\"share\":100,\"kind\":\"country\"}]}]}";
+
+// ---- Tables
+
+const HEADER_OF_TWO: &str =
+    "row,element,instant,contingency,direction,class,inner,outer,r_in,r_out,gap,a:BE,a:NL,inner_by,outer_by\n";
+
+const HEADER_OF_THREE: &str =
+    "row,element,instant,contingency,direction,class,inner,outer,r_in,r_out,gap,a:BE,a:NL,a:FR,inner_by,outer_by\n";
+
+/// A case, and the records of its table. Where the angles of a state may be exact or not, either table is right.
+struct Case {
+    name: &'static str,
+    nodes: [&'static str; 3],
+    lines: &'static str,
+    elements: [&'static str; 3],
+    settings: &'static str,
+    keys: &'static str,
+    header: &'static str,
+    tables: [&'static str; 2],
+}
+
+const CASES: [Case; 12] = [
+    Case {
+        name: "two nodes",
+        nodes: [BE, NL, ""],
+        lines: LINE,
+        elements: BASE,
+        settings: TWO,
+        keys: KEYS_OF_TWO,
+        header: HEADER_OF_TWO,
+        tables: [
+            "1,c1,preventive,,DIRECT,CERTAIN,KEPT,KEPT,500000000,500000000,0,0,-1000000000000,,\n2,c1,preventive,,OPPOSITE,CERTAIN,KEPT,KEPT,500000000,500000000,0,0,1000000000000,,\n",
+            "",
+        ],
+    },
+    Case {
+        name: "a triangle",
+        nodes: [BE, NL, FR],
+        lines: TRIANGLE,
+        elements: BASE,
+        settings: THREE,
+        keys: KEYS_OF_THREE,
+        header: HEADER_OF_THREE,
+        tables: [
+            "1,c1,preventive,,DIRECT,CERTAIN,KEPT,KEPT,499999999,500000001,2,0,-666666666667,-333333333334,,\n2,c1,preventive,,OPPOSITE,CERTAIN,KEPT,KEPT,499999999,500000001,2,0,666666666666,333333333333,,\n",
+            "",
+        ],
+    },
+    Case {
+        name: "a triangle below the threshold",
+        nodes: [BE, NL, FR],
+        lines: TRIANGLE,
+        elements: BASE,
+        settings: HIGH_THRESHOLD,
+        keys: KEYS_OF_THREE,
+        header: HEADER_OF_THREE,
+        tables: [
+            "1,c1,preventive,,DIRECT,BELOW,-,-,499999999,500000001,2,0,-666666666667,-333333333334,,\n2,c1,preventive,,OPPOSITE,BELOW,-,-,499999999,500000001,2,0,666666666666,333333333333,,\n",
+            "",
+        ],
+    },
+    Case {
+        name: "a triangle after an outage",
+        nodes: [BE, NL, FR],
+        lines: TRIANGLE,
+        elements: AFTER_FRANCE,
+        settings: THREE,
+        keys: KEYS_OF_THREE,
+        header: HEADER_OF_THREE,
+        tables: [
+            "1,c1,outage,co1,DIRECT,CERTAIN,KEPT,KEPT,500000000,500000000,0,0,-1000000000000,-1000000000000,,\n",
+            "1,c1,outage,co1,DIRECT,CERTAIN,KEPT,KEPT,499999999,500000001,2,0,-1000000000000,-1000000000000,,\n",
+        ],
+    },
+    Case {
+        name: "a coupler, closed and out",
+        nodes: [BE_TWICE, NL, ""],
+        lines: COUPLED,
+        elements: AFTER_COUPLER,
+        settings: TWO,
+        keys: KEYS_OF_TWO,
+        header: HEADER_OF_TWO,
+        tables: [
+            "1,c1,preventive,,DIRECT,CERTAIN,KEPT,KEPT,500000000,500000000,0,0,-500000000000,,\n2,c2,outage,co1,DIRECT,CERTAIN,KEPT,KEPT,500000000,500000000,0,-500000000000,-1000000000000,,\n",
+            "1,c1,preventive,,DIRECT,CERTAIN,KEPT,KEPT,500000000,500000000,0,0,-500000000000,,\n2,c2,outage,co1,DIRECT,CERTAIN,KEPT,KEPT,499999999,500000001,2,-500000000000,-1000000000000,,\n",
+        ],
+    },
+    Case {
+        name: "a tie line",
+        nodes: [BE, NL, CROSSING],
+        lines: TIE,
+        elements: ON_TIE,
+        settings: TWO,
+        keys: KEYS_OF_TWO,
+        header: HEADER_OF_TWO,
+        tables: [
+            "1,c1,preventive,,DIRECT,CERTAIN,KEPT,KEPT,500000000,500000000,0,0,-500000000000,,\n",
+            "1,c1,preventive,,DIRECT,CERTAIN,KEPT,KEPT,499999999,500000001,2,0,-500000000000,,\n",
+        ],
+    },
+    Case {
+        name: "a tie line the other way round",
+        nodes: [BE, NL, CROSSING],
+        lines: TIE,
+        elements: ON_TURNED_TIE,
+        settings: TWO,
+        keys: KEYS_OF_TWO,
+        header: HEADER_OF_TWO,
+        tables: [
+            "1,c1,preventive,,DIRECT,CERTAIN,KEPT,KEPT,500000000,500000000,0,0,500000000000,,\n",
+            "1,c1,preventive,,DIRECT,CERTAIN,KEPT,KEPT,499999999,500000001,2,0,500000000000,,\n",
+        ],
+    },
+    Case {
+        name: "a tie line out",
+        nodes: [BE, NL, CROSSING],
+        lines: TIE,
+        elements: AFTER_TIE,
+        settings: TWO,
+        keys: KEYS_OF_TWO,
+        header: HEADER_OF_TWO,
+        tables: [
+            "1,c1,outage,co1,DIRECT,CERTAIN,KEPT,KEPT,500000000,500000000,0,0,-1000000000000,,\n",
+            "1,c1,outage,co1,DIRECT,CERTAIN,KEPT,KEPT,499999999,500000001,2,0,-1000000000000,,\n",
+        ],
+    },
+    Case {
+        name: "a reactance that is raised",
+        nodes: [BE, NL, ""],
+        lines: FLOORED,
+        elements: BASE,
+        settings: TWO,
+        keys: KEYS_OF_TWO,
+        header: HEADER_OF_TWO,
+        tables: [
+            "1,c1,preventive,,DIRECT,CERTAIN,KEPT,KEPT,499999999,500000001,2,0,-1000000000000,,\n2,c1,preventive,,OPPOSITE,CERTAIN,KEPT,KEPT,499999999,500000001,2,0,999999999999,,\n",
+            "",
+        ],
+    },
+    Case {
+        name: "exactly at the threshold",
+        nodes: [BE, NL, ""],
+        lines: TWENTIETH,
+        elements: ON_SECOND,
+        settings: TWO,
+        keys: KEYS_OF_TWO,
+        header: HEADER_OF_TWO,
+        tables: [
+            "1,c1,preventive,,DIRECT,CERTAIN,KEPT,KEPT,500000000,500000000,0,0,-50000000000,,\n2,c1,preventive,,OPPOSITE,CERTAIN,KEPT,KEPT,500000000,500000000,0,0,50000000000,,\n",
+            "",
+        ],
+    },
+    Case {
+        name: "at the threshold, by enclosed angles",
+        nodes: [BE, NL, ""],
+        lines: NEAR_TWENTIETH,
+        elements: ON_SECOND,
+        settings: TWO,
+        keys: KEYS_OF_TWO,
+        header: HEADER_OF_TWO,
+        tables: [
+            "1,c1,preventive,,DIRECT,DOUBTFUL,KEPT,-,499999999,500000001,2,0,-50000000000,,\n2,c1,preventive,,OPPOSITE,DOUBTFUL,KEPT,-,499999999,500000001,2,0,50000000000,,\n",
+            "",
+        ],
+    },
+    Case {
+        name: "a stranded node without load",
+        nodes: [BE, NL, FR],
+        lines: CHAIN,
+        elements: AFTER_CHAIN,
+        settings: TWO,
+        keys: KEYS_OF_TWO,
+        header: HEADER_OF_TWO,
+        tables: [
+            "1,c1,outage,co1,DIRECT,CERTAIN,KEPT,KEPT,500000000,500000000,0,0,-1000000000000,,\n",
+            "",
+        ],
+    },
+];
+
+/// One text of parts.
+fn joined(alloc: Global, parts: &[&str]) -> Result<String, AllocError> {
+    let mut text = String::new(alloc);
+    for part in parts {
+        text.push_str(part)?;
+    }
+    Ok(text)
+}
+
+/// A shelf with the documents of a case.
+fn shelf_of(
+    alloc: Global,
+    nodes: &[&str],
+    lines: &str,
+    elements: &[&str],
+    settings: &str,
+    keys: &str,
+) -> Result<MemShelf, AllocError> {
+    let mut grid = joined(alloc, nodes)?;
+    grid.push_str(lines)?;
+    let mut crac = String::from_str(alloc, HEAD_OF_CRAC)?;
+    crac.push_str(joined(alloc, elements)?.as_str())?;
+    let mut shelf = MemShelf::new(alloc);
+    shelf.add("grid.uct", grid.as_bytes())?;
+    shelf.add("crac.json", crac.as_bytes())?;
+    shelf.add("settings.json", settings.as_bytes())?;
+    shelf.add("glsk.json", keys.as_bytes())?;
+    Ok(shelf)
+}
+
+/// The documents of two nodes.
+fn two_nodes(alloc: Global) -> Result<MemShelf, AllocError> {
+    shelf_of(alloc, &[BE, NL], LINE, &BASE, TWO, KEYS_OF_TWO)
+}
+
+/// Whether the answer is the header with one of the tables.
+fn is_table(alloc: Global, answer: &Answer, case: &Case) -> Result<bool, AllocError> {
+    let first = joined(alloc, &[case.header, case.tables[0]])?;
+    let second = joined(alloc, &[case.header, case.tables[1]])?;
+    let out = answer.out.bytes();
+    Ok(
+        answer.outcome.status == 0
+            && answer.err.bytes().is_empty()
+            && (out == first.as_bytes()
+                || (!case.tables[1].is_empty() && out == second.as_bytes())),
+    )
+}
+
+#[test]
+fn tables_are_printed(rt: HostRuntime) -> Result<(), AllocError> {
+    for case in &CASES {
+        let mut shelf = shelf_of(
+            rt.alloc(),
+            &case.nodes,
+            case.lines,
+            &case.elements,
+            case.settings,
+            case.keys,
+        )?;
+        let answer = call(rt.alloc(), &WORDS, &mut shelf)?;
+        let is_table = is_table(rt.alloc(), &answer, case)?;
+        let name = case.name;
+        assert!(rt; is_table, "{name}");
+    }
+    Ok(())
+}
+
+#[test]
+fn reductions_lower_a_row(rt: HostRuntime) -> Result<(), AllocError> {
+    let mut shelf = two_nodes(rt.alloc())?;
+    shelf.add(
+        "reductions.csv",
+        b"element,direction,cva,iva\nc1,OPPOSITE,100,20.5\n",
+    )?;
+    let answer = call(rt.alloc(), &REDUCED, &mut shelf)?;
+    let table = joined(
+        rt.alloc(),
+        &[
+            HEADER_OF_TWO,
+            "1,c1,preventive,,DIRECT,CERTAIN,KEPT,KEPT,500000000,500000000,0,0,-1000000000000,,\n2,c1,preventive,,OPPOSITE,CERTAIN,KEPT,KEPT,379500000,379500000,0,0,1000000000000,,\n",
+        ],
+    )?;
+    assert_eq!(rt; answer.out.bytes(), table.as_bytes());
+    Ok(())
+}
+
+/// A document that is put in the place of one of two nodes, and the status and the line that it is answered with.
+const REFUSALS: [(&str, &str, u8, &str); 9] = [
+    ("grid.uct", "", 5, "grid line 0: NoNodes\n"),
+    ("crac.json", "{", 6, "crac is not JSON\n"),
+    ("crac.json", "{}", 7, "crac type: Missing\n"),
+    ("crac.json", "[]", 7, "crac : WrongType\n"),
+    ("settings.json", "{}", 9, "settings moment: Missing\n"),
+    ("glsk.json", "x", 6, "glsk is not JSON\n"),
+    (
+        "glsk.json",
+        "{\"series\":[]}",
+        8,
+        "glsk zones[0]: NoSeries\n",
+    ),
+    (
+        "reductions.csv",
+        "element,direction,cva,iva\nc2,DIRECT,1,1\n",
+        10,
+        "reductions row 2: UnknownElement\n",
+    ),
+    (
+        "grid.uct",
+        "##N\n##ZBE\nBBE1AA1  BE1          0 0 380.00    0.00    0.00    0.00\n##ZNL\nNNL1AA1  NL1          0 0 380.00    0.00    0.00    0.00\n##L\nBBE1AA1  NNL1AA1  1 0 0.0000 14.440 0.000000   2000\n",
+        11,
+        "no slack node\n",
+    ),
+];
+
+#[test]
+fn each_document_is_refused(rt: HostRuntime) -> Result<(), AllocError> {
+    for (document, text, status, line) in &REFUSALS {
+        let mut shelf = two_nodes(rt.alloc())?;
+        shelf.add("reductions.csv", b"element,direction,cva,iva\n")?;
+        shelf.add(document, text.as_bytes())?;
+        let answer = call(rt.alloc(), &REDUCED, &mut shelf)?;
+        assert_eq!(rt; answer.outcome.status, *status);
+        assert_eq!(rt; answer.err.bytes(), line.as_bytes());
+        assert!(rt; answer.out.bytes().is_empty());
+    }
+    Ok(())
+}
+
+/// The documents in the order in which they are read, and the lines that `x` in their place is answered with.
+const ORDER: [(&str, &str); 5] = [
+    ("grid.uct", "grid line 1: UnknownBlock\n"),
+    ("crac.json", "crac is not JSON\n"),
+    ("settings.json", "settings is not JSON\n"),
+    ("glsk.json", "glsk is not JSON\n"),
+    ("reductions.csv", "reductions row 1: WrongType\n"),
+];
+
+#[test]
+fn earlier_documents_are_refused_first(rt: HostRuntime) -> Result<(), AllocError> {
+    for first in 0..5 {
+        let mut shelf = two_nodes(rt.alloc())?;
+        for place in first..5 {
+            let (name, _line) = ORDER[place];
+            shelf.add(name, b"x")?;
+        }
+        let answer = call(rt.alloc(), &REDUCED, &mut shelf)?;
+        let (_name, line) = ORDER[first];
+        assert_eq!(rt; answer.err.bytes(), line.as_bytes());
+    }
+    Ok(())
+}
+
+#[test]
+fn split_grids_are_refused(rt: HostRuntime) -> Result<(), AllocError> {
+    let mut shelf = shelf_of(
+        rt.alloc(),
+        &[BE, NL, LOADED_FR],
+        CHAIN,
+        &AFTER_CHAIN,
+        TWO,
+        KEYS_OF_TWO,
+    )?;
+    let answer = call(rt.alloc(), &WORDS, &mut shelf)?;
+    assert_eq!(rt; answer.outcome.status, 12);
+    assert_eq!(rt;
+        answer.err.bytes(),
+        b"split grid in state 1 at node FFR1AA1 \n".as_slice()
+    );
+    Ok(())
+}
+
+/// The node levels 0, 0 and 7 with strong lines from the slack node, and a weak one to the third node.
+const STRONG: &str =
+    "##N\n##ZBE\nBBE1AA0  BE1          0 3 750.00    0.00    0.00    0.00\n##ZNL\nNNL1AA0  NL1          0 0 750.00    0.00    0.00    0.00\nNNL1AA7  NL2          0 0  27.00    0.00    0.00    0.00\n##L\nNNL1AA7  NNL1AA0  1 0 0.0000 999999 0.000000   2000\nBBE1AA0  NNL1AA0  1 0 0.0000 0.0500 0.000000   2000\n";
+
+const SECOND_STRONG: &str = "BBE1AA0  NNL1AA0  2 0 0.0000 0.0500 0.000000   2000\n";
+
+const ON_STRONG: [&str; 3] = [
+    "\"contingencies\":[],\"flowCnecs\":[",
+    "{\"id\":\"c1\",\"networkElementId\":\"BBE1AA0  NNL1AA0  1\",\"instant\":\"preventive\",\"optimized\":true,\"thresholds\":[{\"unit\":\"megawatt\",\"max\":500}]}",
+    "]}",
+];
+
+#[test]
+fn numbers_past_range_are_refused(rt: HostRuntime) -> Result<(), AllocError> {
+    let mut shelf = shelf_of(
+        rt.alloc(),
+        &[STRONG],
+        SECOND_STRONG,
+        &ON_STRONG,
+        TWO,
+        KEYS_OF_TWO,
+    )?;
+    let answer = call(rt.alloc(), &WORDS, &mut shelf)?;
+    assert_eq!(rt; answer.outcome.status, 13);
+    assert_eq!(rt;
+        answer.err.bytes(),
+        b"numbers past range in state 0\n".as_slice()
+    );
+    let mut shelf = shelf_of(rt.alloc(), &[STRONG], "", &ON_STRONG, TWO, KEYS_OF_TWO)?;
+    let answer = call(rt.alloc(), &WORDS, &mut shelf)?;
+    assert_eq!(rt; answer.outcome.status, 0);
+    Ok(())
+}
+
+#[test]
+fn a_shelf_fails_at_each_fetch(rt: HostRuntime) -> Result<(), AllocError> {
+    let lines: [&str; 5] = [
+        "cannot read grid\n",
+        "cannot read crac\n",
+        "cannot read settings\n",
+        "cannot read glsk\n",
+        "cannot read reductions\n",
+    ];
+    for fetch in 0..5 {
+        let mut shelf = two_nodes(rt.alloc())?;
+        shelf.add("reductions.csv", b"element,direction,cva,iva\n")?;
+        shelf.fail_at(fetch as u64 + 1)?;
+        let answer = call(rt.alloc(), &REDUCED, &mut shelf)?;
+        assert_eq!(rt; answer.outcome.status, 3);
+        assert_eq!(rt; answer.err.bytes(), lines[fetch].as_bytes());
+        assert!(rt; answer.out.bytes().is_empty());
+    }
+    Ok(())
+}
+
+#[test]
+fn an_output_fails(rt: HostRuntime) -> Result<(), AllocError> {
+    let mut shelf = two_nodes(rt.alloc())?;
+    let mut out = MemSink::new(rt.alloc(), 10_000)?;
+    out.fail_at(1, 100)?;
+    let err = MemSink::new(rt.alloc(), 10_000)?;
+    let answer = call_into(rt.alloc(), &WORDS, &mut shelf, out, err)?;
+    assert_eq!(rt; answer.outcome.status, 15);
+    assert_eq!(rt; answer.out.bytes().len(), 100);
+    assert_eq!(rt; answer.err.bytes(), b"cannot write\n".as_slice());
+    Ok(())
+}
+
+#[test]
+fn words_of_domain(rt: HostRuntime) -> Result<(), Fail> {
+    let lists: [&[&str]; 5] = [
+        &["domain"],
+        &["domain", "--grid", "grid.uct"],
+        &[
+            "domain",
+            "--grid",
+            "g",
+            "--grid",
+            "g",
+            "--crac",
+            "c",
+            "--glsk",
+            "k",
+            "--settings",
+            "s",
+        ],
+        &[
+            "domain",
+            "--grid",
+            "g",
+            "--crac",
+            "c",
+            "--glsk",
+            "k",
+            "--settings",
+            "s",
+            "--workers",
+            "1",
+        ],
+        &[
+            "domain",
+            "--grid",
+            "g",
+            "--crac",
+            "c",
+            "--glsk",
+            "k",
+            "--settings",
+            "-s",
+        ],
+    ];
+    for words in lists {
+        let mut shelf = MemShelf::new(rt.alloc());
+        let answer = call(rt.alloc(), words, &mut shelf)?;
+        assert!(rt; matches!(answer.outcome.fault, Some(Fault::Usage)));
+    }
+    Ok(())
+}
