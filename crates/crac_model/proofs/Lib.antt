@@ -2,3 +2,8 @@ pub mod PowerLaws
 pub mod LimitLaws
 pub mod NameLaws
 pub mod TableLaws
+pub mod TestLaws
+pub mod PlaceLaws
+pub mod RangeLaws
+pub mod CountLaws
+pub mod CracLaws

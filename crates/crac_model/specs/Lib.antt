@@ -6,3 +6,4 @@ pub mod Thresholds
 pub mod Crac
 pub mod Known
 pub mod Answer
+pub mod Laws

@@ -1,6 +1,6 @@
 //! A whole CRAC document.
 
-ghost use Rattle.std.specs.Prelude.{◌≡◌, ◌≤◌, ℕ, List, length, Ok, Err};
+ghost use Rattle.std.specs.Prelude.{◌≡◌, ◌≤◌, ℕ, List, length, Ok, Err, IfOk};
 ghost use Rattle.fb_types.specs.declared.crac.Crac.{Crac};
 ghost use Rattle.fb_json.specs.Spots.{doc_tree};
 ghost use Rattle.json_reading.specs.Outcome.{Gives, same};
@@ -8,6 +8,7 @@ ghost use Rattle.json_reading.specs.Here.{at_of};
 ghost use Rattle.crac_model.specs.Naming.{grid_of};
 ghost use Rattle.crac_model.specs.Crac.{crac_at, crac_of};
 ghost use Rattle.crac_model.specs.Answer.{Answers, IsFault, IsCrac};
+ghost use Rattle.crac_model.specs.Laws.{IsCracOver};
 ghost use Rattle.crac_model.specs.declared.fault.CracKind.{CracKind};
 
 use crate::entries::ElementReader;
@@ -83,6 +84,9 @@ pub fn read_crac(alloc: Global, doc: &Doc, grid: &Grid) -> Result<Crac, CracErro
 
     // Where it has none, the answer is what it says.
     ensures crac { (crac : Crac) → crac_of grid.now.nodes grid.now.branches (doc_tree doc.now) ≡ Ok crac → IsCrac crac result }
+
+    // Branches and contingencies are those of the grid and of the list, ids are distinct, and all numbers are in their ranges.
+    ensures laws { IfOk result (IsCracOver grid.now.branches) }
 {
     match crac_of(alloc, doc, grid.nodes.as_slice(), grid.branches.as_slice()) {
         Ok(crac) => Ok(crac),
