@@ -1,0 +1,2 @@
+pub mod StateProofs
+pub mod Enclosed
