@@ -1,1 +1,2 @@
 pub mod StateProofs
+pub mod Enclosed

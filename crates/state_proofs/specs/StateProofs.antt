@@ -1,4 +1,4 @@
--- What a state proof is to be.
+-- What is proved of a grid state: a barrier, and enclosed angles of the reference and of each block of the zones' shift keys.
 use Rattle.std.specs.Prelude.{List}
 use Rattle.std.specs.List.{AllZip, flat_map}
 use Rattle.fb_types.specs.declared.grid.Grid.{Grid}
