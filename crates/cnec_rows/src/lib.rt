@@ -1,7 +1,10 @@
 //! The numbers of one row of a domain, put together: a monitored element in one direction, in one grid state.
 #![tactic(auto)]
 
+mod factors;
 mod row;
+#[cfg(test)]
+mod tests;
 mod types;
 
 pub use row::row_numbers;
