@@ -1,1 +1,4 @@
 pub mod Theorem
+pub mod NumberLaws
+pub mod RowLaws
+pub mod TermLaws

@@ -1,5 +1,5 @@
 -- When a list of net positions is secure, and what the rows of a domain say of it.
-use Rattle.std.specs.Prelude.{◌≡◌, ℕ, pos, ℤ, List, All, Some, IfSome, true}
+use Rattle.std.specs.Prelude.{◌≡◌, ℕ, pos, ℤ, List, All, IfSome, true}
 use Rattle.std.specs.List.{AllZip}
 use Rattle.fractions.specs.Fractions.{AtMost}
 use Rattle.fb_types.specs.Domain.{IsPoint, Meets}

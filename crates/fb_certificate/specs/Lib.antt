@@ -3,3 +3,5 @@ pub mod Whole
 pub mod Lists
 pub mod Valid
 pub mod Capacity
+pub mod ElementRows
+pub mod WholeLaws

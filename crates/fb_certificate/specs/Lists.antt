@@ -1,6 +1,6 @@
 -- The two lists of a domain: which rows stand in each, which are removed from it, and its rows over net positions. Rows are
 -- numbered from 1.
-use Rattle.std.specs.Prelude.{◌≡◌, ℕ, zero, suc, ◌<◌, ◌==◌, ◌&&◌, Bool, true, false, not, List, length, map, Option, Some, None, All, slice_get, IfSome}
+use Rattle.std.specs.Prelude.{◌≡◌, ℕ, zero, suc, ◌<◌, ◌==◌, ◌&&◌, Bool, true, false, not, List, length, map, Option, None, All, slice_get, IfSome}
 use Rattle.std.specs.List.{list_any, AllAdjacentBelow}
 use Rattle.std.specs.Option.{option_map_or}
 use Rattle.fb_types.specs.Domain.{Follows}

@@ -1,5 +1,5 @@
 -- Valid certificates.
-use Rattle.std.specs.Prelude.{◌≡◌, ℕ, List, Some, slice_get}
+use Rattle.std.specs.Prelude.{◌≡◌, List, Some, slice_get}
 use Rattle.std.specs.List.{AllZip}
 use Rattle.fb_types.specs.declared.grid.Branch.{Branch}
 use Rattle.grid_state.specs.GridState.{GridState}

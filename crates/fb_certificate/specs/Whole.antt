@@ -1,7 +1,6 @@
 -- What the inputs of a domain are to be: their parts fit each other, and all numbers are in their ranges.
-use Rattle.std.specs.Prelude.{◌≡◌, ◌⊎◌, ℕ, ◌<◌, ◌≤◌, ◌^◌, ℤ, pos, ◌≤ℤ◌, List, length, map, All, Option, Some, None, IfSome, is_some, true}
+use Rattle.std.specs.Prelude.{◌≡◌, ℕ, ◌<◌, ◌≤◌, ◌^◌, pos, ◌≤ℤ◌, List, length, map, All, Some, None, IfSome}
 use Rattle.std.specs.List.{AllZip}
-use Rattle.fb_types.specs.declared.crac.Contingency.{Contingency}
 use Rattle.fb_types.specs.declared.crac.Element.{Element}
 use Rattle.fb_types.specs.declared.crac.Crac.{Crac}
 use Rattle.fb_types.specs.declared.grid.Grid.{Grid}
