@@ -1,0 +1,3 @@
+pub mod AssemblyLaws
+pub mod BuildLaws
+pub mod MarkLaws

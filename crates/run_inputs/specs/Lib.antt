@@ -1,0 +1,4 @@
+pub mod Building
+pub mod Marks
+pub mod RefusalLaws
+pub mod Refusals
