@@ -17,7 +17,7 @@ use Rattle.fb_certificate.specs.CracRows.{CracRow, row_if, rows_of_element, crac
 use Rattle.fb_certificate.specs.ElementRows.{IsRowIn}
 use Rattle.fb_certificate.specs.Valid.{AreNumbersOf, IsRowOf}
 use Rattle.fb_certificate.specs.declared.types.Inputs.{Inputs}
-use Rattle.domain_maker.specs.Rows.{AreMade, AreAdded}
+use Rattle.domain_maker.specs.MadeRows.{AreMade, AreAdded}
 
 -- ---- lists side by side
 
@@ -30,18 +30,6 @@ zip_push R (a ∷ xs) (b ∷ ys) x y h r = (h.0, zip_push R xs ys x y h.1 r)
 -- ---- a row in a direction
 
 module _ (inputs : Inputs) (proofs : List StateProof) where
-  nothing_added : (rows : List RowProof) → AreAdded inputs proofs [] rows rows
-  nothing_added rows = record { behind = λ earlier made. subst (λ (due : List CracRow). AreMade inputs proofs due rows) (sym (append-nil earlier)) made }
-
-  pub none_added : (k : ℕ) (is_opposite : Bool) (rows : List RowProof) (o : Option Element) → is_limited is_opposite o ≡ false
-      → IfSome o (λ e. AreAdded inputs proofs (row_if (k, e) is_opposite (limit_in is_opposite e)) rows rows)
-  none_added k is_opposite rows None h = tt
-  none_added k is_opposite rows (Some e) h = by_limit (limit_in is_opposite e) h
-    where
-      by_limit : (limit : Option ℤ) → is_some limit ≡ false → AreAdded inputs proofs (row_if (k, e) is_opposite limit) rows rows
-      by_limit None h = nothing_added rows
-      by_limit (Some l) h = absurd (cc)
-
   pub one_added : (k : ℕ) (is_opposite : Bool) (before after : List RowProof) (spans : RowSpans) (row : RowProof) (o : Option Element) → slice_get inputs.crac.elements k ≡ o → is_limited is_opposite o ≡ true
       → ((c : CracRow) → IsRowIn inputs.crac.elements k is_opposite c → AreNumbersOf inputs proofs c spans row)
       → ((c : CracRow) → IsRowIn inputs.crac.elements k is_opposite c → IsRight inputs c row)

@@ -17,8 +17,8 @@ use std::alloc::{AllocError, Global};
 
 /// The certificate of the inputs, every row kept.
 ///
-/// It is valid: each grid state is proved, and the rows are those of the CRAC, in order. Every balanced list of net positions in the box
-/// that meets its inner rows is secure, every secure one meets its outer rows, and each row brackets its exact flow.
+/// It is valid: each grid state is proved, and the rows are those of the CRAC, in order. Every balanced list of net positions in the
+/// box that meets its inner rows is secure, every secure one meets its outer rows, and each row brackets its exact flow.
 pub fn make_certificate(alloc: Global, inputs: &Inputs) -> Result<Certificate, AllocError>
     requires { IsWhole inputs.now }
     ensures valid { IfOk result (λ c. IsValid inputs.now c) }

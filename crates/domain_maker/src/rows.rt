@@ -5,7 +5,7 @@ ghost use Rattle.run_settings.specs.Reductions.{limit_in, is_limited};
 ghost use Rattle.fb_certificate.specs.CracRows.{row_if, rows_of_element, crac_rows};
 ghost use Rattle.fb_certificate.specs.Valid.{AreProofs};
 ghost use Rattle.fb_certificate.specs.Whole.{IsWhole, row_zones};
-ghost use Rattle.domain_maker.specs.Rows.{AreMade, AreAdded};
+ghost use Rattle.domain_maker.specs.MadeRows.{AreMade, AreAdded};
 
 use fb_certificate::{Inputs, RowProof, RowZones, StateProof, row_of, row_zones};
 use fb_types::{Element, Items};
