@@ -1,5 +1,9 @@
-pub mod Exclusive
-pub mod Kept
+pub mod Agreement
+pub mod Answered
+pub mod Asking
+pub mod Chains
+pub mod GridSame
+pub mod NeededNames
+pub mod OneAnswer
+pub mod OptionLaws
 pub mod OutputPieces
-pub mod ThreeWords
-pub mod Worked

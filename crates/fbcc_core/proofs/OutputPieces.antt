@@ -1,8 +1,15 @@
 -- The first bytes of a text, put piece by piece.
-use Rattle.std.proofs.Common.{◌≡◌, ℕ, zero, suc, ◌+◌, ◌-◌, ◌≤◌, List, [], ◌∷◌, ◌++◌, take, drop, refl, sym, ap, ◌∙◌, arith, append_assoc}
-use Rattle.std.specs.Prelude.{min}
+use Rattle.std.proofs.Common.{◌≡◌, ℕ, zero, suc, ◌+◌, ◌-◌, ◌≤◌, Bool, List, [], ◌∷◌, ◌++◌, length, take, drop, refl, sym, ap, ◌∙◌, arith, append_assoc}
+use Rattle.std.specs.Prelude.{min, IsTrue}
 use Rattle.std.proofs.Math.Seq.{take-add}
 use Rattle.fb_base.specs.Pieces.{AppendsPrefix}
+
+-- so many first bytes of the text were put
+pub record IsPutSoFar (told tells : Bool) (old new : List ℕ) (faults faults_now : ℕ) (text : List ℕ) (at : ℕ) : Type 0 where
+  pub still_tells : tells ≡ told
+  pub never_falls : faults ≤ faults_now
+  pub within : at ≤ length text
+  pub taken : IsTrue told → new ≡ old ++ take at text
 
 none_taken : (k : ℕ) → [] ≡ take {A = ℕ} k []
 none_taken zero = refl

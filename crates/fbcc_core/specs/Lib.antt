@@ -1,9 +1,10 @@
 pub mod Causes
-pub mod Nets
+pub mod Commands
+pub mod Kinds
+pub mod Reading
 pub mod Seen
 pub mod Statuses
+pub mod Steps
 pub mod Telling
 pub mod Texts
-pub mod Verdicts
 pub mod Words
-pub mod Working

@@ -1,13 +1,12 @@
 -- What is printed. Every line ends with a line feed.
 use Rattle.std.specs.Prelude.{ℕ, List, [], ◌∷◌, ◌++◌, codes}
 use Rattle.std.specs.Fmt.{decimal}
+use Rattle.fbcc_core.specs.Kinds.{grid_kind_text, crac_kind_text, settings_kind_text, key_kind_text, reduction_kind_text}
 use Rattle.fbcc_core.specs.Statuses.{name_of}
 use Rattle.fbcc_core.specs.declared.answer.Reason.{Reason}
 use Rattle.fbcc_core.specs.declared.answer.Reason.TheVariants.{Follows}
 use Rattle.fbcc_core.specs.declared.answer.Fault.{Fault}
-use Rattle.fbcc_core.specs.declared.answer.Fault.TheVariants.{No, Usage, ReadFault, TooLong, GridFault, CertificateFault, WriteFault, Memory}
-use Rattle.ucte_reader.specs.declared.kind.GridKind.{GridKind}
-use Rattle.ucte_reader.specs.declared.kind.GridKind.TheVariants as grid
+use Rattle.fbcc_core.specs.declared.answer.Fault.TheVariants.{No, Usage, ReadFault, TooLong, GridFault, JsonFault, CracFault, KeyFault, SettingsFault, ReductionFault, NoSlack, SplitGrid, RangeExceeded, CertificateFault, WriteFault, Memory}
 
 abbrev pub line : List ℕ → List ℕ
 line text = text ++ 10 ∷ []
@@ -23,22 +22,9 @@ yes_text = line (codes "yes")
 abbrev pub no_text : ℕ → Reason → List ℕ
 no_text row reason = codes "no " ++ (decimal row ++ (codes " " ++ line (reason_text reason)))
 
--- what is wrong with a line of a grid
-abbrev pub kind_text : GridKind → List ℕ
-kind_text grid.UnknownBlock = codes "UnknownBlock"
-kind_text grid.BadNumber = codes "BadNumber"
-kind_text grid.BadCode = codes "BadCode"
-kind_text grid.BadStatus = codes "BadStatus"
-kind_text grid.DuplicateNode = codes "DuplicateNode"
-kind_text grid.DuplicateBranch = codes "DuplicateBranch"
-kind_text grid.UnknownNode = codes "UnknownNode"
-kind_text grid.UnknownBranch = codes "UnknownBranch"
-kind_text grid.NegativeReactance = codes "NegativeReactance"
-kind_text grid.SusceptanceOutOfRange = codes "SusceptanceOutOfRange"
-kind_text grid.InjectionOutOfRange = codes "InjectionOutOfRange"
-kind_text grid.TooMany = codes "TooMany"
-kind_text grid.NoNodes = codes "NoNodes"
-kind_text grid.BadPhase = codes "BadPhase"
+-- a document, a place in it, and what is wrong there
+abbrev pub placed_line : List ℕ → List ℕ → List ℕ → List ℕ
+placed_line document place kind = document ++ (codes " " ++ (place ++ (codes ": " ++ line kind)))
 
 -- The line that tells a fault on the error output. Of the answer no, which is put to the output, none is told.
 abbrev pub fault_line : Fault → List ℕ
@@ -46,7 +32,15 @@ fault_line (No row reason) = []
 fault_line Usage = line (codes "usage: fbcc COMMAND [--name value]")
 fault_line (ReadFault document) = codes "cannot read " ++ line (name_of document)
 fault_line (TooLong document limit) = name_of document ++ (codes " is longer than " ++ (decimal limit ++ line (codes " bytes")))
-fault_line (GridFault number kind) = codes "grid line " ++ (decimal number ++ (codes ": " ++ line (kind_text kind)))
+fault_line (GridFault number kind) = codes "grid line " ++ (decimal number ++ (codes ": " ++ line (grid_kind_text kind)))
+fault_line (JsonFault document) = name_of document ++ line (codes " is not JSON")
+fault_line (CracFault place kind) = placed_line (codes "crac") place (crac_kind_text kind)
+fault_line (KeyFault place kind) = placed_line (codes "glsk") place (key_kind_text kind)
+fault_line (SettingsFault place kind) = placed_line (codes "settings") place (settings_kind_text kind)
+fault_line (ReductionFault row kind) = codes "reductions row " ++ (decimal row ++ (codes ": " ++ line (reduction_kind_text kind)))
+fault_line NoSlack = line (codes "no slack node")
+fault_line (SplitGrid state node) = codes "split grid in state " ++ (decimal state ++ (codes " at node " ++ line node))
+fault_line (RangeExceeded state) = codes "numbers past range in state " ++ line (decimal state)
 fault_line (CertificateFault row) = codes "certificate row " ++ (decimal row ++ line (codes " cannot be read"))
 fault_line WriteFault = line (codes "cannot write")
 fault_line (Memory e) = line (codes "out of memory")

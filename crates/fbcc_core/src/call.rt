@@ -1,16 +1,20 @@
 //! The call.
 
-ghost use Rattle.std.specs.Prelude.{◌≡◌, ◌↔◌, Some, map, string_bytes};
-ghost use Rattle.fbcc_core.specs.Causes.{IsCaused, Refuses, Judges, IsPut, IsTold};
+ghost use Rattle.std.specs.Prelude.{◌≡◌, ◌⊎◌, ◌↔◌, Some, map, string_bytes};
+ghost use Rattle.fbcc_core.specs.Causes.{IsCaused, Refuses, Judges, Completes, IsTold, Took, TookPrefix};
+ghost use Rattle.fbcc_core.specs.Commands.{work_of};
 ghost use Rattle.fbcc_core.specs.Seen.{shelf_seen, sink_seen};
 ghost use Rattle.fbcc_core.specs.Statuses.{status_of};
-ghost use Rattle.fbcc_core.specs.Words.{Accepts};
+ghost use Rattle.fbcc_core.specs.Words.{Accepts, Asks};
 
-use crate::answer::{Document, Fault, Outcome, status};
-use crate::net_command::print_net;
-use crate::request::asked;
-use crate::rows_command::judge_rows;
+use crate::answer::{Fault, Outcome, status};
+use crate::domain_command::domain_work;
+use crate::net_command::net_work;
+use crate::output::put_all;
+use crate::request::{Command, asked};
+use crate::rows_command::rows_work;
 use crate::telling::tell;
+use crate::work::Work;
 use fb_base::{Shelf, Sink};
 use std::alloc::Global;
 
@@ -28,17 +32,20 @@ pub fn fbcc<H: Shelf, O: Sink, E: Sink>(
     ensures usage { (result.fault ≡ Some Fault.Usage) ↔ ¬ Accepts (map string_bytes words.now) }
     ensures untouched { result.fault ≡ Some Fault.Usage → shelf.new ≡ shelf.old }
 
-    // Each answer comes only by its cause. At status 0 of `rows` the multipliers of the document prove its target, which then
-    // holds at every balanced list of net positions in the box that meets the cited rows; at status 0 of `net` the document is
-    // a grid.
+    // Each answer comes only by its cause, and the cause says what was put to the output. At status 0 of `rows` the multipliers of the
+    // document prove its target, which then holds at every balanced list of net positions in the box that meets the cited rows; at
+    // status 0 of `net` the document is a grid, and the text that of its net positions; at status 0 of `domain` the text is that of a
+    // valid certificate: every balanced list of net positions in the box that meets its kept inner rows is secure, and every secure
+    // one meets its outer rows.
     ensures caused { IsCaused (map string_bytes words.now) (shelf_seen H.tells H.held H.faults H.last_failed shelf.old shelf.new) (sink_seen O.tells O.taken O.faults out.old out.new) result.fault }
 
-    // Each refusal and each verdict comes wherever it is caused, unless the outside failed or memory ran out.
-    ensures refuses { Refuses (map string_bytes words.now) (shelf_seen H.tells H.held H.faults H.last_failed shelf.old shelf.new) (sink_seen O.tells O.taken O.faults out.old out.new) result.fault }
+    // Each refusal and each verdict comes wherever it is caused, unless the outside failed or memory ran out, and a domain is
+    // printed wherever its documents can be read and its states are in order.
+    ensures refuses { Refuses (map string_bytes words.now) (shelf_seen H.tells H.held H.faults H.last_failed shelf.old shelf.new) result.fault }
     ensures judges { Judges (map string_bytes words.now) (shelf_seen H.tells H.held H.faults H.last_failed shelf.old shelf.new) (sink_seen O.tells O.taken O.faults out.old out.new) result.fault }
+    ensures completes { Completes (map string_bytes words.now) (shelf_seen H.tells H.held H.faults H.last_failed shelf.old shelf.new) (sink_seen O.tells O.taken O.faults out.old out.new) result.fault }
 
-    // What was put to the output and to the error output. At status 0 it is `yes`, or the net text of the grid.
-    ensures put { IsPut (map string_bytes words.now) (shelf_seen H.tells H.held H.faults H.last_failed shelf.old shelf.new) (sink_seen O.tells O.taken O.faults out.old out.new) result.fault }
+    // What was put to the error output.
     ensures told { IsTold (sink_seen E.tells E.taken E.faults err.old err.new) result.fault }
 {
     let answer = answer_to(alloc, words, shelf, out);
@@ -59,11 +66,39 @@ fn answer_to<H: Shelf, O: Sink>(
     ensures usage { (result ≡ Some Fault.Usage) ↔ ¬ Accepts (map string_bytes words.now) }
     ensures untouched { result ≡ Some Fault.Usage → shelf.new ≡ shelf.old }
     ensures caused { IsCaused (map string_bytes words.now) (shelf_seen H.tells H.held H.faults H.last_failed shelf.old shelf.new) (sink_seen O.tells O.taken O.faults out.old out.new) result }
-    ensures put { IsPut (map string_bytes words.now) (shelf_seen H.tells H.held H.faults H.last_failed shelf.old shelf.new) (sink_seen O.tells O.taken O.faults out.old out.new) result }
 {
-    match asked(words) {
-        None => Some(Fault::Usage),
-        Some((Document::Rows, name)) => judge_rows(alloc, name, shelf, out),
-        Some((Document::Grid, name)) => print_net(alloc, name, shelf, out),
+    let Some(command) = asked(words) else {
+        return Some(Fault::Usage);
+    };
+    match do_work(alloc, words, command, shelf) {
+        Ok(work) => put_work(work, out),
+        Err(fault) => Some(fault),
+    }
+}
+
+/// The work of the command.
+fn do_work<H: Shelf>(
+    alloc: Global,
+    words: &[String],
+    command: Command,
+    shelf: &mut H,
+) -> Result<Work, Fault>
+    requires { Asks (map string_bytes words.now) command }
+    ensures { work_of (map string_bytes words.now) (shelf_seen H.tells H.held H.faults H.last_failed shelf.old shelf.new) command result }
+{
+    match command {
+        Command::Rows => rows_work(alloc, words, shelf),
+        Command::Net => net_work(alloc, words, shelf),
+        Command::Domain => domain_work(alloc, words, shelf),
+    }
+}
+
+/// Puts the text of the work, and answers its verdict, or that the output failed.
+fn put_work<O: Sink>(work: Work, out: &mut O) -> Option<Fault>
+    ensures { ((result ≡ work.verdict) × Took (sink_seen O.tells O.taken O.faults out.old out.new) work.text) ⊎ ((result ≡ Some Fault.WriteFault) × TookPrefix (sink_seen O.tells O.taken O.faults out.old out.new) work.text) }
+{
+    match put_all(out, work.text.as_slice()) {
+        Ok(()) => work.verdict,
+        Err(_failed) => Some(Fault::WriteFault),
     }
 }

@@ -1,28 +1,37 @@
 //! Documents from a shelf.
 
-ghost use Rattle.std.specs.Prelude.{◌≤◌, IsTrue, IfOk, IfErr, length};
-ghost use Rattle.fb_base.specs.Documents.{Holds};
+ghost use Rattle.std.specs.Prelude.{◌≡◌, ◌≢◌, ◌≤◌, Some, map, string_bytes};
+ghost use Rattle.fbcc_core.specs.Reading.{fetched};
 ghost use Rattle.fbcc_core.specs.Seen.{shelf_seen};
-ghost use Rattle.fbcc_core.specs.Statuses.{limit_of};
-ghost use Rattle.fbcc_core.specs.Working.{IsFetchFault};
+ghost use Rattle.fbcc_core.specs.Words.{name_given};
 
 use crate::answer::{Document, Fault};
+use crate::request::name_for;
 use fb_base::{Fetch, Shelf};
+use fb_types::Items;
 use std::alloc::Global;
 
-/// The bytes of a document.
+/// The greatest length of a document, in bytes.
+const LIMIT: u64 = 67_108_864;
+
+/// The bytes of a document that the words name.
 pub fn fetch_document<H: Shelf>(
     alloc: Global,
+    words: &[String],
     document: Document,
-    name: &str,
     shelf: &mut H,
-) -> Result<Vec<u8>, Fault>
-    ensures told { IfOk result (λ bytes. IsTrue (H.tells shelf.old) → Holds (H.held shelf.old) name.now bytes.items) }
-    ensures within { IfOk result (λ bytes. length bytes.items ≤ limit_of document) }
-    ensures fault { IfErr result (IsFetchFault (shelf_seen H.tells H.held H.faults H.last_failed shelf.old shelf.new) document name.now) }
+) -> Result<Items<u8>, Fault>
+    requires { name_given (map string_bytes words.now) document ≢ None }
+    ensures still_tells { H.tells shelf.new ≡ H.tells shelf.old }
+    ensures still_held { H.held shelf.new ≡ H.held shelf.old }
+    ensures never_falls { H.faults shelf.old ≤ H.faults shelf.new }
+    ensures step { fetched (map string_bytes words.now) (shelf_seen H.tells H.held H.faults H.last_failed shelf.old shelf.new) document result }
 {
-    match shelf.fetch(alloc, name, document.limit()) {
-        Ok(bytes) => Ok(bytes),
+    let Some(name) = name_for(words, document) else {
+        unreachable!()
+    };
+    match shelf.fetch(alloc, name, LIMIT) {
+        Ok(bytes) => Ok(Items::from_vec(bytes)),
         Err(Fetch::Failed) => Err(Fault::ReadFault { document }),
         Err(Fetch::TooLong { limit }) => Err(Fault::TooLong { document, limit }),
         Err(Fetch::Memory(e)) => Err(Fault::Memory(e)),

@@ -4,12 +4,17 @@
 
 mod answer;
 mod call;
+mod documents;
+mod domain_command;
 mod fetching;
+mod kinds;
 mod net_command;
 mod output;
 mod request;
 mod rows_command;
 mod telling;
+mod understanding;
+mod work;
 
 pub use answer::{Document, Fault, Outcome, Reason};
 pub use call::fbcc;

@@ -1,54 +1,37 @@
 //! The command `net`: the net positions of a grid.
 
-ghost use Rattle.std.specs.Prelude.{◌≡◌, ◌≢◌, ℕ, List, Some, IfOk, IfErr};
-ghost use Rattle.fbcc_core.specs.Causes.{IsCaused, IsPut};
-ghost use Rattle.fbcc_core.specs.Nets.{IsNetText};
-ghost use Rattle.fbcc_core.specs.Seen.{shelf_seen, sink_seen};
-ghost use Rattle.fbcc_core.specs.Words.{AsksFor};
-ghost use Rattle.fbcc_core.specs.Working.{IsNetFault};
+ghost use Rattle.std.specs.Prelude.{map, string_bytes};
+ghost use Rattle.fbcc_core.specs.Commands.{nets, net_work as net_steps};
+ghost use Rattle.fbcc_core.specs.Seen.{shelf_seen};
+ghost use Rattle.fbcc_core.specs.Words.{Asks};
 
-use crate::answer::{Document, Fault};
-use crate::fetching::fetch_document;
-use crate::output::put_text;
-use fb_base::{Shelf, Sink};
+use crate::answer::Fault;
+use crate::documents::read_grid_document;
+use crate::request::Command;
+use crate::work::Work;
+use fb_base::Shelf;
+use fb_types::{Grid, Items};
 use net_table::net_text;
 use std::alloc::Global;
-use ucte_reader::{GridError, read_grid};
 
-/// Fetches the grid document of this name, and puts the net positions of its two-letter codes.
-pub fn print_net<H: Shelf, O: Sink>(
-    alloc: Global,
-    name: &str,
-    shelf: &mut H,
-    out: &mut O,
-) -> Option<Fault>
-    ensures no_usage { result ≢ Some Fault.Usage }
-    ensures caused { (words : List (List ℕ)) → AsksFor words Document.Grid name.now → IsCaused words (shelf_seen H.tells H.held H.faults H.last_failed shelf.old shelf.new) (sink_seen O.tells O.taken O.faults out.old out.new) result }
-    ensures put { (words : List (List ℕ)) → AsksFor words Document.Grid name.now → IsPut words (shelf_seen H.tells H.held H.faults H.last_failed shelf.old shelf.new) (sink_seen O.tells O.taken O.faults out.old out.new) result }
+/// Reads the grid that the words name, and adds up the net positions of its two-letter codes.
+pub fn net_work<H: Shelf>(alloc: Global, words: &[String], shelf: &mut H) -> Result<Work, Fault>
+    requires { Asks (map string_bytes words.now) Command.Net }
+    ensures { net_steps (map string_bytes words.now) (shelf_seen H.tells H.held H.faults H.last_failed shelf.old shelf.new) result }
 {
-    let bytes = match fetch_document(alloc, Document::Grid, name, shelf) {
-        Ok(bytes) => bytes,
-        Err(fault) => return Some(fault),
-    };
-    let text = match net_of(alloc, bytes.as_slice()) {
-        Ok(text) => text,
-        Err(fault) => return Some(fault),
-    };
-    put_text(out, text.as_slice())
+    let grid = read_grid_document(alloc, words, shelf)?;
+    net_of(alloc, &grid)
 }
 
-/// The net text of the bytes of a grid.
-fn net_of(alloc: Global, bytes: &[u8]) -> Result<Vec<u8>, Fault>
-    ensures text { IfOk result (λ text. IsNetText bytes.now text.items) }
-    ensures fault { IfErr result (IsNetFault bytes.now) }
+/// The net text of the grid.
+fn net_of(alloc: Global, grid: &Grid) -> Result<Work, Fault>
+    ensures { nets grid.now result }
 {
-    let grid = match read_grid(alloc, bytes) {
-        Ok(grid) => grid,
-        Err(GridError::Fault { line, kind }) => return Err(Fault::GridFault { line, kind }),
-        Err(GridError::Memory(e)) => return Err(Fault::Memory(e)),
-    };
-    match net_text(alloc, &grid) {
-        Ok(text) => Ok(text),
+    match net_text(alloc, grid) {
+        Ok(text) => Ok(Work {
+            text: Items::from_vec(text),
+            verdict: None,
+        }),
         Err(e) => Err(Fault::Memory(e)),
     }
 }

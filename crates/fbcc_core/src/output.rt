@@ -3,10 +3,7 @@
 ghost use Rattle.std.specs.Prelude.{◌≡◌, ◌++◌, ◌≤◌, IsTrue, IsOk, OnOk, OnErr};
 ghost use Rattle.fb_base.specs.Counts.{Rose};
 ghost use Rattle.fb_base.specs.Pieces.{AppendsPrefix};
-ghost use Rattle.fbcc_core.specs.Seen.{sink_seen};
-ghost use Rattle.fbcc_core.specs.Working.{IsTextPut};
 
-use crate::answer::Fault;
 use fb_base::{PutFailed, Sink};
 
 /// The greatest length of a piece, in bytes.
@@ -30,14 +27,4 @@ pub fn put_all<S: Sink>(sink: &mut S, text: &[u8]) -> Result<(), PutFailed>
         at = end;
     }
     Ok(())
-}
-
-/// Puts the text, and answers with the fault where that fails.
-pub fn put_text<O: Sink>(out: &mut O, text: &[u8]) -> Option<Fault>
-    ensures { IsTextPut text.now (sink_seen O.tells O.taken O.faults out.old out.new) result }
-{
-    match put_all(out, text) {
-        Ok(()) => None,
-        Err(_failed) => Some(Fault::WriteFault),
-    }
 }

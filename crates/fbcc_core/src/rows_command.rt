@@ -1,91 +1,86 @@
 //! The command `rows`: whether the multipliers of a rows document prove its target.
 
-ghost use Rattle.std.specs.Prelude.{◌≡◌, ◌≢◌, ℕ, List, Some, IfOk, IfErr};
-ghost use Rattle.fbcc_core.specs.Causes.{IsCaused, IsPut};
-ghost use Rattle.fbcc_core.specs.Seen.{shelf_seen, sink_seen};
-ghost use Rattle.fbcc_core.specs.Words.{AsksFor};
-ghost use Rattle.fbcc_core.specs.Working.{IsVerdictOn, IsJudgingFault, IsVerdictPut};
+ghost use Rattle.std.specs.Prelude.{◌≤◌, All, IfErr, IfOk, length, map, string_bytes};
+ghost use Rattle.fb_types.specs.Domain.{IsHalfOver, AreBounds};
+ghost use Rattle.fbcc_core.specs.Commands.{IsYes, IsNo, Proves, HoldsTarget, judges, rows_work as rows_steps};
+ghost use Rattle.fbcc_core.specs.Seen.{shelf_seen};
+ghost use Rattle.fbcc_core.specs.Steps.{IsMemory};
+ghost use Rattle.fbcc_core.specs.Words.{Asks};
 
 use crate::answer::{Document, Fault, Reason};
 use crate::fetching::fetch_document;
-use crate::output::{put_all, put_text};
-use fb_base::{Shelf, Sink};
+use crate::request::Command;
+use crate::understanding::rows_in;
+use crate::work::Work;
+use fb_base::Shelf;
+use fb_types::Items;
 use redundancy::follows;
-use rows_document::{RowsError, read_rows};
+use rows_document::RowsDocument;
 use std::alloc::Global;
 
-/// What a rows document says of its target.
-#[derive(Clone, Copy)]
-pub enum Verdict {
-    /// The multipliers prove it.
-    Yes,
-    /// They do not; it stands at this line.
-    No { row: u64 },
+/// Reads the rows document that the words name, and judges it.
+pub fn rows_work<H: Shelf>(alloc: Global, words: &[String], shelf: &mut H) -> Result<Work, Fault>
+    requires { Asks (map string_bytes words.now) Command.Rows }
+    ensures { rows_steps (map string_bytes words.now) (shelf_seen H.tells H.held H.faults H.last_failed shelf.old shelf.new) result }
+{
+    let bytes = fetch_document(alloc, words, Document::Rows, shelf)?;
+    let document = rows_in(alloc, bytes.as_slice())?;
+    judge(alloc, &document)
 }
 
-/// Fetches the rows document of this name, judges it, and puts the verdict. None is yes.
-pub fn judge_rows<H: Shelf, O: Sink>(
-    alloc: Global,
-    name: &str,
-    shelf: &mut H,
-    out: &mut O,
-) -> Option<Fault>
-    ensures no_usage { result ≢ Some Fault.Usage }
-    ensures caused { (words : List (List ℕ)) → AsksFor words Document.Rows name.now → IsCaused words (shelf_seen H.tells H.held H.faults H.last_failed shelf.old shelf.new) (sink_seen O.tells O.taken O.faults out.old out.new) result }
-    ensures put { (words : List (List ℕ)) → AsksFor words Document.Rows name.now → IsPut words (shelf_seen H.tells H.held H.faults H.last_failed shelf.old shelf.new) (sink_seen O.tells O.taken O.faults out.old out.new) result }
+/// The verdict on the document.
+fn judge(alloc: Global, document: &RowsDocument) -> Result<Work, Fault>
+    requires target_over { IsHalfOver (length document.now.bounds) document.now.target }
+    requires rows_over { All (λ row. IsHalfOver (length document.now.bounds) row) document.now.rows }
+    requires bounds_in_range { AreBounds document.now.bounds }
+    requires few_rows { length document.now.rows ≤ 40000 }
+    ensures { judges document.now result }
 {
-    let bytes = match fetch_document(alloc, Document::Rows, name, shelf) {
-        Ok(bytes) => bytes,
-        Err(fault) => return Some(fault),
-    };
-    let verdict = match judge(alloc, bytes.as_slice()) {
-        Ok(verdict) => verdict,
-        Err(fault) => return Some(fault),
-    };
-    put_verdict(alloc, verdict, out)
-}
-
-/// Reads the bytes as a rows document, and judges it.
-fn judge(alloc: Global, bytes: &[u8]) -> Result<Verdict, Fault>
-    ensures verdict { IfOk result (IsVerdictOn bytes.now) }
-    ensures fault { IfErr result (IsJudgingFault bytes.now) }
-{
-    let document = match read_rows(alloc, bytes) {
-        Ok(document) => document,
-        Err(RowsError::Fault { line }) => return Err(Fault::CertificateFault { row: line }),
-        Err(RowsError::Memory(e)) => return Err(Fault::Memory(e)),
-    };
     if follows(
         &document.target,
         &document.rows,
         &document.by,
         &document.bounds,
     ) {
-        return Ok(Verdict::Yes);
+        yes(alloc, document)
+    } else {
+        no(alloc, document)
     }
-    Ok(Verdict::No {
-        row: document.bounds.len() + document.rows.len() + 1,
-    })
 }
 
-/// Puts the verdict.
-fn put_verdict<O: Sink>(alloc: Global, verdict: Verdict, out: &mut O) -> Option<Fault>
-    ensures { IsVerdictPut verdict (sink_seen O.tells O.taken O.faults out.old out.new) result }
+/// The verdict yes.
+fn yes(alloc: Global, document: &RowsDocument) -> Result<Work, Fault>
+    requires proves { Proves document.now }
+    requires holds { HoldsTarget document.now }
+    ensures yes { IfOk result (IsYes document.now) }
+    ensures memory { IfErr result IsMemory }
 {
-    match verdict {
-        Verdict::Yes => put_text(out, b"yes\n"),
-        Verdict::No { row } => {
-            let text = match format!(in alloc; "no {row} Follows\n") {
-                Ok(text) => text,
-                Err(e) => return Some(Fault::Memory(e)),
-            };
-            match put_all(out, text.as_bytes()) {
-                Ok(()) => Some(Fault::No {
-                    row,
-                    reason: Reason::Follows,
-                }),
-                Err(_failed) => Some(Fault::WriteFault),
-            }
-        }
+    match String::from_str(alloc, "yes\n") {
+        Ok(text) => Ok(Work {
+            text: Items::from_vec(text.into_bytes()),
+            verdict: None,
+        }),
+        Err(e) => Err(Fault::Memory(e)),
+    }
+}
+
+/// The verdict no, with the line of the target.
+fn no(alloc: Global, document: &RowsDocument) -> Result<Work, Fault>
+    requires fails { ¬ Proves document.now }
+    requires few_zones { length document.now.bounds ≤ 64 }
+    requires few_rows { length document.now.rows ≤ 40000 }
+    ensures no { IfOk result (IsNo document.now) }
+    ensures memory { IfErr result IsMemory }
+{
+    let row = document.bounds.len() + document.rows.len() + 1;
+    match format!(in alloc; "no {row} Follows\n") {
+        Ok(text) => Ok(Work {
+            text: Items::from_vec(text.into_bytes()),
+            verdict: Some(Fault::No {
+                row,
+                reason: Reason::Follows,
+            }),
+        }),
+        Err(e) => Err(Fault::Memory(e)),
     }
 }

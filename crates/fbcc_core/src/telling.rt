@@ -4,14 +4,17 @@ ghost use Rattle.std.specs.Prelude.{◌≡◌, Some, IfOk, IfSome, IfNone, strin
 ghost use Rattle.fbcc_core.specs.Causes.{IsTold, IsLineTold, Took, TookPrefix};
 ghost use Rattle.fbcc_core.specs.Seen.{sink_seen};
 ghost use Rattle.fbcc_core.specs.Telling.{IsMade, IsFaultKept, IsKept};
-ghost use Rattle.fbcc_core.specs.Texts.{fault_line, kind_text};
+ghost use Rattle.fbcc_core.specs.Texts.{fault_line, placed_line};
 ghost use Rattle.std.specs.Prelude.{◌⊎◌};
 
 use crate::answer::Fault;
+use crate::kinds::{
+    crac_kind_name, grid_kind_name, key_kind_name, reduction_kind_name, settings_kind_name,
+};
 use crate::output::put_all;
 use fb_base::Sink;
+use fb_types::Text;
 use std::alloc::{AllocError, Global};
-use ucte_reader::GridKind;
 
 /// Tells the answer, if a line is due for it. Where there is no memory for the line, the answer becomes want of memory.
 pub fn tell<E: Sink>(alloc: Global, answer: Option<Fault>, err: &mut E) -> Option<Fault>
@@ -67,6 +70,14 @@ fn fixed_line(fault: &Fault) -> Option<&'static str>
         Fault::ReadFault { .. } => None,
         Fault::TooLong { .. } => None,
         Fault::GridFault { .. } => None,
+        Fault::JsonFault { .. } => None,
+        Fault::CracFault { .. } => None,
+        Fault::KeyFault { .. } => None,
+        Fault::SettingsFault { .. } => None,
+        Fault::ReductionFault { .. } => None,
+        Fault::NoSlack => Some("no slack node\n"),
+        Fault::SplitGrid { .. } => None,
+        Fault::RangeExceeded { .. } => None,
         Fault::CertificateFault { .. } => None,
         Fault::WriteFault => Some("cannot write\n"),
         Fault::Memory(_) => Some("out of memory\n"),
@@ -81,17 +92,30 @@ fn made_line(alloc: Global, fault: &Fault) -> Result<String, AllocError>
     match fault {
         Fault::No { .. } => unreachable!(),
         Fault::Usage => unreachable!(),
-        Fault::ReadFault { document } => {
-            let name = document.name();
-            format!(in alloc; "cannot read {name}\n")
-        }
+        Fault::ReadFault { document } => format!(in alloc; "cannot read {}\n", document.name()),
         Fault::TooLong { document, limit } => {
-            let name = document.name();
-            format!(in alloc; "{name} is longer than {limit} bytes\n")
+            format!(in alloc; "{} is longer than {limit} bytes\n", document.name())
         }
         Fault::GridFault { line, kind } => {
-            let kind = grid_kind_name(*kind);
-            format!(in alloc; "grid line {line}: {kind}\n")
+            format!(in alloc; "grid line {line}: {}\n", grid_kind_name(*kind))
+        }
+        Fault::JsonFault { document } => format!(in alloc; "{} is not JSON\n", document.name()),
+        Fault::CracFault { place, kind } => {
+            placed_line(alloc, "crac", place, crac_kind_name(*kind))
+        }
+        Fault::KeyFault { place, kind } => placed_line(alloc, "glsk", place, key_kind_name(*kind)),
+        Fault::SettingsFault { place, kind } => {
+            placed_line(alloc, "settings", place, settings_kind_name(*kind))
+        }
+        Fault::ReductionFault { row, kind } => {
+            format!(in alloc; "reductions row {row}: {}\n", reduction_kind_name(*kind))
+        }
+        Fault::NoSlack => unreachable!(),
+        Fault::SplitGrid { state, node } => {
+            format!(in alloc; "split grid in state {state} at node {}\n", node.as_text())
+        }
+        Fault::RangeExceeded { state } => {
+            format!(in alloc; "numbers past range in state {state}\n")
         }
         Fault::CertificateFault { row } => {
             format!(in alloc; "certificate row {row} cannot be read\n")
@@ -101,24 +125,15 @@ fn made_line(alloc: Global, fault: &Fault) -> Result<String, AllocError>
     }
 }
 
-/// The name of what is wrong with a line of a grid.
-fn grid_kind_name(kind: GridKind) -> &'static str
-    ensures { result.now ≡ kind_text kind }
+/// A line that names a document, a place in it, and what is wrong there.
+fn placed_line(
+    alloc: Global,
+    document: &str,
+    place: &Text,
+    kind: &str,
+) -> Result<String, AllocError>
+    ensures { IfOk result (λ text. string_bytes text ≡ placed_line document.now place.now kind.now) }
 {
-    match kind {
-        GridKind::UnknownBlock => "UnknownBlock",
-        GridKind::BadNumber => "BadNumber",
-        GridKind::BadCode => "BadCode",
-        GridKind::BadStatus => "BadStatus",
-        GridKind::DuplicateNode => "DuplicateNode",
-        GridKind::DuplicateBranch => "DuplicateBranch",
-        GridKind::UnknownNode => "UnknownNode",
-        GridKind::UnknownBranch => "UnknownBranch",
-        GridKind::NegativeReactance => "NegativeReactance",
-        GridKind::SusceptanceOutOfRange => "SusceptanceOutOfRange",
-        GridKind::InjectionOutOfRange => "InjectionOutOfRange",
-        GridKind::TooMany => "TooMany",
-        GridKind::NoNodes => "NoNodes",
-        GridKind::BadPhase => "BadPhase",
-    }
+    let place = place.as_text();
+    format!(in alloc; "{document} {place}: {kind}\n")
 }

@@ -84,7 +84,7 @@ marked_are_named crac marks e =
     let size : length marks ≡ length crac.contingencies = sized (length crac.contingencies) crac.elements marks e in
     ap (λ (n : ℕ). filter (is_marked marks) (range_with_len 0 n)) size
     ∙ filter_same (is_marked marks) (is_named crac.elements) (range_with_len 0 (length crac.contingencies))
-      (all_in_range (λ (k : ℕ). is_marked marks k ≡ is_named crac.elements k) (length crac.contingencies) (λ k lt. read (length crac.contingencies) crac.elements marks k e lt))
+    (all_in_range (λ (k : ℕ). is_marked marks k ≡ is_named crac.elements k) (length crac.contingencies) (λ k lt. read (length crac.contingencies) crac.elements marks k e lt))
 
 -- ---- outages are contingencies, and no more than there are
 pub outages_below : (crac : Crac) → All (λ k. k < length crac.contingencies) (outages_of crac)

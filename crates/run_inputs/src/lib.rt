@@ -9,3 +9,6 @@ mod states;
 
 pub use assembly::run_inputs;
 pub use fault::InputsError;
+
+#[cfg(test)]
+mod tests;

@@ -1,12 +1,20 @@
-use Rattle.fbcc_core.proofs.Exclusive.{refuses, judges}
-use Rattle.fbcc_core.proofs.Kept.{kept_caused}
+use Rattle.fbcc_core.proofs.Answered.{kept_caused, kept_usage, usage_kept, refuses, judges, completes}
 use Rattle.fbcc_core.proofs.call.fbcc.Goals as goal
 
+pub returns-clause-usage : goal.returns-clause-usage
+returns-clause-usage g c = (λ e. c.answer_to-answer.ensures.usage.0 (usage_kept _ _ c.tell-fault.ensures.kept e), λ unasked. kept_usage _ _ c.tell-fault.ensures.kept (c.answer_to-answer.ensures.usage.1 unasked))
+
+pub returns-clause-untouched : goal.returns-clause-untouched
+returns-clause-untouched g c = λ e. c.answer_to-answer.ensures.untouched (usage_kept _ _ c.tell-fault.ensures.kept e)
+
 pub returns-clause-caused : goal.returns-clause-caused
-returns-clause-caused g c = kept_caused _ _ _ c.answer_to-answer.result c.tell-fault.result c.tell-fault.ensures.kept c.answer_to-answer.ensures.caused
+returns-clause-caused g c = kept_caused _ _ _ _ _ c.tell-fault.ensures.kept c.answer_to-answer.ensures.caused
 
 pub returns-clause-refuses : goal.returns-clause-refuses
-returns-clause-refuses g c = refuses _ _ _ c.tell-fault.result (kept_caused _ _ _ c.answer_to-answer.result c.tell-fault.result c.tell-fault.ensures.kept c.answer_to-answer.ensures.caused)
+returns-clause-refuses g c = refuses _ _ _ _ (kept_caused _ _ _ _ _ c.tell-fault.ensures.kept c.answer_to-answer.ensures.caused)
 
 pub returns-clause-judges : goal.returns-clause-judges
-returns-clause-judges g c = judges _ _ _ c.tell-fault.result (kept_caused _ _ _ c.answer_to-answer.result c.tell-fault.result c.tell-fault.ensures.kept c.answer_to-answer.ensures.caused)
+returns-clause-judges g c = judges _ _ _ _ (kept_caused _ _ _ _ _ c.tell-fault.ensures.kept c.answer_to-answer.ensures.caused)
+
+pub returns-clause-completes : goal.returns-clause-completes
+returns-clause-completes g c = completes _ _ _ _ (kept_caused _ _ _ _ _ c.tell-fault.ensures.kept c.answer_to-answer.ensures.caused)

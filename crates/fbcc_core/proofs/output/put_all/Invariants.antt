@@ -1,5 +1,5 @@
 use Rattle.std.proofs.Common.{◌-◌, length}
-use Rattle.fbcc_core.specs.Working.{IsPutSoFar}
+use Rattle.fbcc_core.proofs.OutputPieces.{IsPutSoFar}
 use Rattle.fbcc_core.proofs.output.put_all.Given as goal
 
 abbrev pub invariant-pieces : goal.invariant-pieces

@@ -31,12 +31,11 @@ pub returns-in-Some-first_out_of_range-clause-cause : goal.returns-in-Some-first
 returns-in-Some-first_out_of_range-clause-cause c =
     let outages : c.as_slice.result.now ≡ outages_of c.args.crac = c.as_slice.ensures.items ∙ c.in_ok-outages.ensures.outages in
     let first : IsFirstOutside c.args.grid c.in_ok-states.states c.in-Some-first_out_of_range.state =
-    subst (λ (states : List GridState). IsFirstOutside c.args.grid states c.in-Some-first_out_of_range.state) c.as_slice-2.ensures.items c.in-Some-first_out_of_range.ensures in
-    (
+    subst (λ (states : List GridState). IsFirstOutside c.args.grid states c.in-Some-first_out_of_range.state) c.as_slice-2.ensures.items c.in-Some-first_out_of_range.ensures in (
       c.in-Some.slack,
       sym c.in-Some.ensures.node,
       subst (λ (ks : List ℕ). IsFirstOutOfRange c.args.grid c.in-Some.slack c.args.keys.columns (out_by_state c.args.crac ks) c.in-Some-first_out_of_range.state) outages
-      (first_out_of_range c.args.grid c.in-Some.slack c.args.keys.columns (out_by_state c.args.crac c.as_slice.result.now) c.in_ok-states.states c.in_ok-states.ensures.states c.in-Some-first_out_of_range.state first),
+          (first_out_of_range c.args.grid c.in-Some.slack c.args.keys.columns (out_by_state c.args.crac c.as_slice.result.now) c.in_ok-states.states c.in_ok-states.ensures.states c.in-Some-first_out_of_range.state first),
     )
 
 pub returns-clause-whole : goal.returns-clause-whole

@@ -1,0 +1,3 @@
+pub mod Cites
+pub mod Parts
+pub mod RowRecords

@@ -1,0 +1,109 @@
+//! How a row stands in the inner and in the outer list.
+
+ghost use Rattle.std.specs.Prelude.{◌≡◌, ◌++◌, ◌∷◌, [], IfOk, OnOk, string_bytes};
+ghost use Rattle.std.specs.Option.{option_copied};
+ghost use Rattle.fb_certificate.specs.Lists.{inner_list, outer_list};
+ghost use Rattle.domain_report.specs.DomainTexts.{cite_of, citation, citation_text, fate_word, multiplier_text};
+ghost use Rattle.domain_report.specs.Standings.{standing_word, standing_citation};
+
+use cnec_selection::Class;
+use fb_certificate::Cite;
+use fb_types::{Mult, Multipliers};
+use std::alloc::{AllocError, Global};
+
+/// How a row stands in a list.
+#[derive(Clone, Copy)]
+pub(crate) enum Standing<'a> {
+    /// The row is not of the list.
+    Absent,
+    Kept,
+    /// It is removed, by these multipliers.
+    Removed(&'a Multipliers),
+}
+
+/// Whether a row of this class stands in the inner list.
+pub(crate) fn is_inner(class: Class) -> bool
+    ensures { result ≡ inner_list.holds class }
+{
+    match class {
+        Class::Below => false,
+        Class::Doubtful => true,
+        Class::Certain => true,
+    }
+}
+
+/// Whether a row of this class stands in the outer list.
+pub(crate) fn is_outer(class: Class) -> bool
+    ensures { result ≡ outer_list.holds class }
+{
+    match class {
+        Class::Below => false,
+        Class::Doubtful => false,
+        Class::Certain => true,
+    }
+}
+
+/// The first cite that names the row with this number.
+fn cite_of(cites: &[Cite], number: u64) -> Option<&Cite>
+    ensures { option_copied result ≡ cite_of cites.now number }
+{
+    cites.iter().find(|cite| u64::from(cite.row) == number)
+}
+
+/// How the row with this number stands in the list with these cites, of which it is or not.
+pub(crate) fn standing_of(is_listed: bool, cites: &[Cite], number: u64) -> Standing<'_>
+    ensures word { standing_word result ≡ fate_word is_listed cites.now number }
+    ensures citation { standing_citation result ≡ citation is_listed cites.now number }
+{
+    if !is_listed {
+        return Standing::Absent;
+    }
+    match cite_of(cites, number) {
+        None => Standing::Kept,
+        Some(cite) => Standing::Removed(&cite.by),
+    }
+}
+
+/// The word of a standing.
+pub(crate) fn word(standing: Standing) -> &'static str
+    ensures { result.now ≡ standing_word standing.entry }
+{
+    match standing {
+        Standing::Absent => "-",
+        Standing::Kept => "KEPT",
+        Standing::Removed(_) => "REMOVED",
+    }
+}
+
+/// The citation of a row that is removed, empty for another.
+pub(crate) fn citation(alloc: Global, standing: Standing) -> Result<String, AllocError>
+    ensures { IfOk result (λ text. string_bytes text ≡ standing_citation standing.entry) }
+{
+    match standing {
+        Standing::Absent => Ok(String::new(alloc)),
+        Standing::Kept => Ok(String::new(alloc)),
+        Standing::Removed(by) => multipliers_text(alloc, by),
+    }
+}
+
+/// Multipliers as text: mu, and then for each multiplier a blank, its row, a colon and its value.
+fn multipliers_text(alloc: Global, by: &Multipliers) -> Result<String, AllocError>
+    ensures { IfOk result (λ text. string_bytes text ≡ citation_text by.now) }
+{
+    let mu = by.mu;
+    let mut text = format!(in alloc; "{mu}")?;
+    for m in by.mults.as_slice() {
+        put_multiplier(alloc, &mut text, m)?;
+    }
+    Ok(text)
+}
+
+/// Appends a multiplier.
+fn put_multiplier(alloc: Global, text: &mut String, m: &Mult) -> Result<(), AllocError>
+    ensures { OnOk result (string_bytes text.new ≡ string_bytes text.old ++ multiplier_text m.now) }
+{
+    let row = m.row;
+    let value = m.value;
+    let piece = format!(in alloc; " {row}:{value}")?;
+    text.push_str(piece.as_str())
+}

@@ -1,0 +1,138 @@
+-- What each command does, step by step.
+use Rattle.std.specs.Prelude.{◌≡◌, ◌⊎◌, ℕ, ◌+◌, ℤ, List, [], length, Some, None}
+use Rattle.std.specs.Option.{option_map_or}
+use Rattle.std.specs.Prelude.{slice_get}
+use Rattle.fb_types.specs.Domain.{Follows as FollowsBy, IsPoint, Meets, MeetsCited}
+use Rattle.fb_types.specs.declared.crac.Crac.{Crac}
+use Rattle.fb_types.specs.declared.grid.Grid.{Grid}
+use Rattle.run_settings.specs.declared.model.Settings.{Settings}
+use Rattle.run_settings.specs.declared.reduction.Reduction.{Reduction}
+use Rattle.glsk_keys.specs.declared.model.Keys.{Keys}
+use Rattle.rows_document.specs.declared.reader.RowsDocument.{RowsDocument}
+use Rattle.net_table.specs.NetTexts.{net_text}
+use Rattle.fb_certificate.specs.Capacity.{IsCapacity}
+use Rattle.fb_certificate.specs.Valid.{IsValid}
+use Rattle.fb_certificate.specs.Whole.{IsWhole}
+use Rattle.fb_certificate.specs.declared.types.Inputs.{Inputs}
+use Rattle.fb_certificate.specs.declared.types.Certificate.{Certificate}
+use Rattle.domain_report.specs.DomainTexts.{domain_text}
+use Rattle.run_inputs.specs.Refusals.{IsRefused}
+use Rattle.run_inputs.specs.declared.InputsError.{InputsError}
+use Rattle.run_inputs.specs.declared.InputsError.TheVariants as refusal
+use Rattle.fbcc_core.specs.Reading.{fetched, reads_rows, grid_read, crac_read, settings_read, keys_read, reductions_read}
+use Rattle.fbcc_core.specs.Seen.{ShelfSeen}
+use Rattle.fbcc_core.specs.Steps.{Step, step, after}
+use Rattle.fbcc_core.specs.Texts.{yes_text, no_text}
+use Rattle.fbcc_core.specs.declared.answer.Document.TheVariants as document
+use Rattle.fbcc_core.specs.declared.answer.Fault.{Fault}
+use Rattle.fbcc_core.specs.declared.answer.Fault.TheVariants.{No, NoSlack, SplitGrid, RangeExceeded, Memory}
+use Rattle.fbcc_core.specs.declared.answer.Reason.TheVariants.{Follows}
+use Rattle.fbcc_core.specs.declared.request.Command.{Command}
+use Rattle.fbcc_core.specs.declared.request.Command.TheVariants as command
+use Rattle.fbcc_core.specs.declared.work.Work.{Work}
+
+-- ---- rows
+
+-- the multipliers of the document prove its target
+abbrev pub Proves : RowsDocument → Type 0
+Proves d = FollowsBy d.target d.rows d.by d.bounds
+
+-- every balanced list of whole net positions in the document's box that meets the cited rows meets the target
+abbrev pub HoldsTarget : RowsDocument → Type 0
+HoldsTarget d = (x : List ℤ) → IsPoint d.bounds x → MeetsCited d.rows d.by x → Meets d.target x
+
+-- the line of the target, counted from 1
+abbrev pub target_line : RowsDocument → ℕ
+target_line d = length d.bounds + length d.rows + 1
+
+-- the multipliers prove the target, which then holds, and the answer is yes
+pub record IsYes (d : RowsDocument) (work : Work) : Type 0 where
+  pub proves : Proves d
+  pub holds : HoldsTarget d
+  pub text : work.text ≡ yes_text
+  pub verdict : work.verdict ≡ None
+
+-- the multipliers do not prove it, and the answer is no, at its line
+pub record IsNo (d : RowsDocument) (work : Work) : Type 0 where
+  pub fails : ¬ Proves d
+  pub text : work.text ≡ no_text (target_line d) Follows
+  pub verdict : work.verdict ≡ Some (No (target_line d) Follows)
+
+abbrev pub judges : RowsDocument → Step Work
+judges d = step (λ work. IsYes d work ⊎ IsNo d work) (λ fault. ⊥)
+
+abbrev pub rows_work : List (List ℕ) → ShelfSeen → Step Work
+rows_work words shelf = after (after (fetched words shelf document.Rows) reads_rows) judges
+
+-- ---- net
+
+-- the text of the net positions of the grid
+pub record IsNet (grid : Grid) (work : Work) : Type 0 where
+  pub text : work.text ≡ net_text grid.nodes grid.branches
+  pub verdict : work.verdict ≡ None
+
+abbrev pub nets : Grid → Step Work
+nets grid = step (IsNet grid) (λ fault. ⊥)
+
+abbrev pub net_work : List (List ℕ) → ShelfSeen → Step Work
+net_work words shelf = after (grid_read words shelf) nets
+
+-- ---- domain
+
+-- whole inputs of these parts
+pub record AreInputs (grid : Grid) (crac : Crac) (settings : Settings) (keys : Keys) (reductions : List Reduction) (inputs : Inputs) : Type 0 where
+  pub whole : IsWhole inputs
+  pub grid_is : inputs.grid ≡ grid
+  pub crac_is : inputs.crac ≡ crac
+  pub settings_are : inputs.settings ≡ settings
+  pub keys_are : inputs.keys ≡ keys
+  pub reductions_are : inputs.reductions ≡ reductions
+
+-- the code of the node at a place
+abbrev pub code_at : Grid → ℕ → List ℕ
+code_at grid node = option_map_or (λ n. n.code) (slice_get grid.nodes node) []
+
+-- the fault that tells why there are no inputs
+abbrev pub fault_of : Grid → InputsError → Fault
+fault_of grid refusal.NoSlack = NoSlack
+fault_of grid (refusal.SplitGrid state node) = SplitGrid state (code_at grid node)
+fault_of grid (refusal.RangeExceeded state) = RangeExceeded state
+fault_of grid (refusal.Memory e) = Memory e
+
+-- the grid states of the documents, or why there are none: slack, then split over all states, then range over all states
+abbrev pub puts_together : Grid → Crac → Settings → Keys → List Reduction → Step Inputs
+puts_together grid crac settings keys reductions =
+    step (AreInputs grid crac settings keys reductions)
+    (λ fault. (e : InputsError) × IsRefused grid crac settings.slack keys.columns e × (fault ≡ fault_of grid e))
+
+-- the documents, one after another, and the states
+abbrev pub domain_inputs : List (List ℕ) → ShelfSeen → Step Inputs
+domain_inputs words shelf =
+    after (grid_read words shelf) (λ grid.
+    after (crac_read words shelf grid) (λ crac.
+    after (settings_read words shelf grid) (λ settings.
+    after (keys_read words shelf grid settings) (λ keys.
+    after (reductions_read words shelf crac) (λ reductions.
+    puts_together grid crac settings keys reductions)))))
+
+-- the text is that of a certificate that is valid, has no removed row, and has the capacity theorem
+pub record IsDomain (inputs : Inputs) (work : Work) : Type 0 where
+  pub certificate : Certificate
+  pub valid : IsValid inputs certificate
+  pub capacity : IsCapacity inputs certificate
+  pub all_kept : (certificate.inner ≡ []) × (certificate.outer ≡ [])
+  pub text : work.text ≡ domain_text inputs certificate
+  pub verdict : work.verdict ≡ None
+
+abbrev pub computes : Inputs → Step Work
+computes inputs = step (IsDomain inputs) (λ fault. ⊥)
+
+abbrev pub domain_work : List (List ℕ) → ShelfSeen → Step Work
+domain_work words shelf = after (domain_inputs words shelf) computes
+
+-- ---- All commands
+
+abbrev pub work_of : List (List ℕ) → ShelfSeen → Command → Step Work
+work_of words shelf command.Rows = rows_work words shelf
+work_of words shelf command.Net = net_work words shelf
+work_of words shelf command.Domain = domain_work words shelf

@@ -1,0 +1,122 @@
+-- The documents of a call: what is fetched, and what it says.
+use Rattle.std.specs.Prelude.{◌≡◌, ◌⊎◌, ℕ, ◌≤◌, List, [], length, Some, None, Ok, Err, IsTrue}
+use Rattle.serde_json.specs.Data.{Data}
+use Rattle.fb_base.specs.Documents.{Holds, HasMoreThan}
+use Rattle.fb_types.specs.declared.crac.Crac.{Crac}
+use Rattle.fb_types.specs.declared.grid.Grid.{Grid}
+use Rattle.fb_json.specs.Tree.{HasTree}
+use Rattle.ucte_reader.specs.File.{IsGridOf, IsGridFault}
+use Rattle.ucte_reader.specs.declared.kind.GridKind.{GridKind}
+use Rattle.crac_model.specs.Crac.{crac_of}
+use Rattle.crac_model.specs.declared.fault.CracKind.{CracKind}
+use Rattle.run_settings.specs.Settings.{settings_of}
+use Rattle.run_settings.specs.Reductions.{IsReductionFault, HasNoReductionFault, reductions_of}
+use Rattle.run_settings.specs.Views.{said}
+use Rattle.run_settings.specs.declared.model.Settings.{Settings}
+use Rattle.run_settings.specs.declared.model.SettingsKind.{SettingsKind}
+use Rattle.run_settings.specs.declared.reduction.Reduction.{Reduction}
+use Rattle.run_settings.specs.declared.reduction.ReductionKind.{ReductionKind}
+use Rattle.glsk_keys.specs.Columns.{keys_of}
+use Rattle.glsk_keys.specs.declared.model.Keys.{Keys}
+use Rattle.glsk_keys.specs.declared.model.KeyKind.{KeyKind}
+use Rattle.rows_document.specs.Table.{lines_of}
+use Rattle.rows_document.specs.Reading.{IsReading, IsFirstBadLine}
+use Rattle.rows_document.specs.declared.reader.RowsDocument.{RowsDocument}
+use Rattle.fbcc_core.specs.Seen.{ShelfSeen, ShelfFailed}
+use Rattle.fbcc_core.specs.Statuses.{limit}
+use Rattle.fbcc_core.specs.Steps.{Step, step, after}
+use Rattle.fbcc_core.specs.Words.{name_given}
+use Rattle.fbcc_core.specs.declared.answer.Document.{Document}
+use Rattle.fbcc_core.specs.declared.answer.Document.TheVariants as document
+use Rattle.fbcc_core.specs.declared.answer.Fault.{Fault}
+use Rattle.fbcc_core.specs.declared.answer.Fault.TheVariants.{ReadFault, TooLong, GridFault, JsonFault, CracFault, KeyFault, SettingsFault, ReductionFault, CertificateFault}
+
+-- ---- Fetching
+
+-- these are the bytes of the document under the name in the words. They are within its limit, and where the shelf tells what it holds
+-- they are what it holds
+pub record IsGiven (words : List (List ℕ)) (shelf : ShelfSeen) (document : Document) (bytes : List ℕ) : Type 0 where
+  pub name : List ℕ
+  pub named : name_given words document ≡ Some name
+  pub told : IsTrue shelf.tells → Holds shelf.documents name bytes
+  pub within : length bytes ≤ limit
+
+-- the shelf failed at the document
+pub record IsUnread (words : List (List ℕ)) (shelf : ShelfSeen) (document : Document) (fault : Fault) : Type 0 where
+  pub is : fault ≡ ReadFault document
+  pub name : List ℕ
+  pub named : name_given words document ≡ Some name
+  pub failed : ShelfFailed shelf
+  pub told : IsTrue shelf.tells → shelf.last_failed ≡ Some name
+
+-- the document has more bytes than its limit
+pub record IsLonger (words : List (List ℕ)) (shelf : ShelfSeen) (document : Document) (fault : Fault) : Type 0 where
+  pub is : fault ≡ TooLong document limit
+  pub name : List ℕ
+  pub named : name_given words document ≡ Some name
+  pub told : IsTrue shelf.tells → HasMoreThan shelf.documents name limit
+
+abbrev pub fetched : List (List ℕ) → ShelfSeen → Document → Step (List ℕ)
+fetched words shelf document = step (IsGiven words shelf document) (λ fault. IsUnread words shelf document fault ⊎ IsLonger words shelf document fault)
+
+-- ---- Understanding
+
+-- a grid, or its first fault
+abbrev pub reads_grid : List ℕ → Step Grid
+reads_grid bytes = step (IsGridOf bytes) (λ fault. (line : ℕ) × (kind : GridKind) × (fault ≡ GridFault line kind) × IsGridFault bytes line kind)
+
+-- a JSON document, or none
+abbrev pub reads_tree : Document → List ℕ → Step Data
+reads_tree document bytes = step (HasTree bytes) (λ fault. (fault ≡ JsonFault document) × ((d : Data) → ¬ HasTree bytes d))
+
+-- what a CRAC says of the grid, or its first fault
+abbrev pub reads_crac : Grid → Data → Step Crac
+reads_crac grid tree =
+    step (λ crac. crac_of grid.nodes grid.branches tree ≡ Ok crac)
+    (λ fault. (place : List ℕ) × (kind : CracKind) × (fault ≡ CracFault place kind) × (crac_of grid.nodes grid.branches tree ≡ Err (record { place = place; kind = kind })))
+
+-- what settings say, or their first fault
+abbrev pub reads_settings : Grid → Data → Step Settings
+reads_settings grid tree =
+    step (λ settings. settings_of grid.nodes tree ≡ Ok (said settings))
+    (λ fault. (place : List ℕ) × (kind : SettingsKind) × (fault ≡ SettingsFault place kind) × (settings_of grid.nodes tree ≡ Err (record { place = place; kind = kind })))
+
+-- what shift keys say, or their first fault
+abbrev pub reads_keys : Grid → Settings → Data → Step Keys
+reads_keys grid settings tree =
+    step (λ keys. keys_of grid.nodes settings.zones settings.moment.nanosecond tree ≡ Ok keys)
+    (λ fault. (place : List ℕ) × (kind : KeyKind) × (fault ≡ KeyFault place kind)
+    × (keys_of grid.nodes settings.zones settings.moment.nanosecond tree ≡ Err (record { place = place; kind = kind })))
+
+-- what reductions say, or their first fault
+abbrev pub reads_reductions : Crac → List ℕ → Step (List Reduction)
+reads_reductions crac bytes =
+    step (λ reductions. HasNoReductionFault crac.elements bytes × (reductions ≡ reductions_of crac.elements bytes))
+    (λ fault. (row : ℕ) × (kind : ReductionKind) × (fault ≡ ReductionFault row kind) × IsReductionFault crac.elements bytes row kind)
+
+-- a rows document, or its first bad line
+abbrev pub reads_rows : List ℕ → Step RowsDocument
+reads_rows bytes = step (IsReading bytes) (λ fault. (row : ℕ) × (fault ≡ CertificateFault row) × IsFirstBadLine (lines_of bytes) row)
+
+-- ---- Each document of a domain, fetched and then understood
+
+abbrev pub grid_read : List (List ℕ) → ShelfSeen → Step Grid
+grid_read words shelf = after (fetched words shelf document.Grid) reads_grid
+
+abbrev pub tree_read : List (List ℕ) → ShelfSeen → Document → Step Data
+tree_read words shelf document = after (fetched words shelf document) (reads_tree document)
+
+abbrev pub crac_read : List (List ℕ) → ShelfSeen → Grid → Step Crac
+crac_read words shelf grid = after (tree_read words shelf document.Crac) (reads_crac grid)
+
+abbrev pub settings_read : List (List ℕ) → ShelfSeen → Grid → Step Settings
+settings_read words shelf grid = after (tree_read words shelf document.Settings) (reads_settings grid)
+
+abbrev pub keys_read : List (List ℕ) → ShelfSeen → Grid → Settings → Step Keys
+keys_read words shelf grid settings = after (tree_read words shelf document.Glsk) (reads_keys grid settings)
+
+-- where the words name no reductions, there are none
+abbrev pub reductions_read : List (List ℕ) → ShelfSeen → Crac → Step (List Reduction)
+reductions_read words shelf crac result =
+    ((name_given words document.Reductions ≡ None) × (result ≡ Ok []))
+    ⊎ after (fetched words shelf document.Reductions) (reads_reductions crac) result

@@ -1,0 +1,132 @@
+//! The documents of a domain, each fetched and then understood.
+
+ghost use Rattle.std.specs.Prelude.{◌≡◌, ◌≢◌, ◌≤◌, All, IfOk, IfErr, None, Ok, Err, length, map, string_bytes};
+ghost use Rattle.fb_certificate.specs.Whole.{IsCracOver};
+ghost use Rattle.fb_json.specs.Spots.{doc_tree};
+ghost use Rattle.glsk_keys.specs.Laws.{AreKeys};
+ghost use Rattle.run_settings.specs.Laws.{AreSettings};
+ghost use Rattle.run_settings.specs.ReductionLaws.{IsReduction};
+ghost use Rattle.run_settings.specs.Views.{said};
+ghost use Rattle.fbcc_core.specs.Reading.{grid_read, tree_read, crac_read, settings_read, keys_read, reductions_read};
+ghost use Rattle.fbcc_core.specs.Seen.{shelf_seen};
+ghost use Rattle.fbcc_core.specs.Words.{name_given};
+
+use crate::answer::{Document, Fault};
+use crate::fetching::fetch_document;
+use crate::request::name_for;
+use crate::understanding::{crac_in, grid_in, keys_in, reductions_in, settings_in, tree_in};
+use fb_base::Shelf;
+use fb_json::Doc;
+use fb_types::{Crac, Grid, Items};
+use glsk_keys::Keys;
+use run_settings::{Reduction, Settings};
+use std::alloc::Global;
+
+/// The grid.
+pub fn read_grid_document<H: Shelf>(
+    alloc: Global,
+    words: &[String],
+    shelf: &mut H,
+) -> Result<Grid, Fault>
+    requires { name_given (map string_bytes words.now) Document.Grid ≢ None }
+    ensures still_tells { H.tells shelf.new ≡ H.tells shelf.old }
+    ensures still_held { H.held shelf.new ≡ H.held shelf.old }
+    ensures never_falls { H.faults shelf.old ≤ H.faults shelf.new }
+    ensures step { grid_read (map string_bytes words.now) (shelf_seen H.tells H.held H.faults H.last_failed shelf.old shelf.new) result }
+{
+    let bytes = fetch_document(alloc, words, Document::Grid, shelf)?;
+    grid_in(alloc, bytes.as_slice())
+}
+
+/// The tree of a JSON document.
+fn read_tree<H: Shelf>(
+    alloc: Global,
+    words: &[String],
+    document: Document,
+    shelf: &mut H,
+) -> Result<Doc, Fault>
+    requires { name_given (map string_bytes words.now) document ≢ None }
+    ensures still_tells { H.tells shelf.new ≡ H.tells shelf.old }
+    ensures still_held { H.held shelf.new ≡ H.held shelf.old }
+    ensures never_falls { H.faults shelf.old ≤ H.faults shelf.new }
+    ensures tree { IfOk result (λ doc. tree_read (map string_bytes words.now) (shelf_seen H.tells H.held H.faults H.last_failed shelf.old shelf.new) document (Ok (doc_tree doc))) }
+    ensures fault { IfErr result (λ fault. tree_read (map string_bytes words.now) (shelf_seen H.tells H.held H.faults H.last_failed shelf.old shelf.new) document (Err fault)) }
+{
+    let bytes = fetch_document(alloc, words, document, shelf)?;
+    tree_in(alloc, document, bytes.as_slice())
+}
+
+/// The CRAC, which speaks of the grid.
+pub fn read_crac_document<H: Shelf>(
+    alloc: Global,
+    words: &[String],
+    grid: &Grid,
+    shelf: &mut H,
+) -> Result<Crac, Fault>
+    requires { name_given (map string_bytes words.now) Document.Crac ≢ None }
+    ensures still_tells { H.tells shelf.new ≡ H.tells shelf.old }
+    ensures still_held { H.held shelf.new ≡ H.held shelf.old }
+    ensures never_falls { H.faults shelf.old ≤ H.faults shelf.new }
+    ensures step { crac_read (map string_bytes words.now) (shelf_seen H.tells H.held H.faults H.last_failed shelf.old shelf.new) grid.now result }
+    ensures laws { IfOk result (IsCracOver (length grid.now.branches)) }
+{
+    let doc = read_tree(alloc, words, Document::Crac, shelf)?;
+    crac_in(alloc, &doc, grid)
+}
+
+/// The settings, whose slack is a node of the grid.
+pub fn read_settings_document<H: Shelf>(
+    alloc: Global,
+    words: &[String],
+    grid: &Grid,
+    shelf: &mut H,
+) -> Result<Settings, Fault>
+    requires { name_given (map string_bytes words.now) Document.Settings ≢ None }
+    ensures still_tells { H.tells shelf.new ≡ H.tells shelf.old }
+    ensures still_held { H.held shelf.new ≡ H.held shelf.old }
+    ensures never_falls { H.faults shelf.old ≤ H.faults shelf.new }
+    ensures step { settings_read (map string_bytes words.now) (shelf_seen H.tells H.held H.faults H.last_failed shelf.old shelf.new) grid.now result }
+    ensures laws { IfOk result (λ settings. AreSettings grid.now.nodes (said settings)) }
+{
+    let doc = read_tree(alloc, words, Document::Settings, shelf)?;
+    settings_in(alloc, &doc, grid)
+}
+
+/// The shift keys of the zones of the settings, at their moment.
+pub fn read_keys_document<H: Shelf>(
+    alloc: Global,
+    words: &[String],
+    grid: &Grid,
+    settings: &Settings,
+    shelf: &mut H,
+) -> Result<Keys, Fault>
+    requires { name_given (map string_bytes words.now) Document.Glsk ≢ None }
+    ensures still_tells { H.tells shelf.new ≡ H.tells shelf.old }
+    ensures still_held { H.held shelf.new ≡ H.held shelf.old }
+    ensures never_falls { H.faults shelf.old ≤ H.faults shelf.new }
+    ensures step { keys_read (map string_bytes words.now) (shelf_seen H.tells H.held H.faults H.last_failed shelf.old shelf.new) grid.now settings.now result }
+    ensures laws { IfOk result (AreKeys grid.now.nodes settings.now.zones) }
+{
+    let doc = read_tree(alloc, words, Document::Glsk, shelf)?;
+    keys_in(alloc, &doc, grid, settings)
+}
+
+/// The reductions of elements of the CRAC: none where the words name no document of them.
+pub fn read_reductions_document<H: Shelf>(
+    alloc: Global,
+    words: &[String],
+    crac: &Crac,
+    shelf: &mut H,
+) -> Result<Items<Reduction>, Fault>
+    ensures still_tells { H.tells shelf.new ≡ H.tells shelf.old }
+    ensures still_held { H.held shelf.new ≡ H.held shelf.old }
+    ensures never_falls { H.faults shelf.old ≤ H.faults shelf.new }
+    ensures step { reductions_read (map string_bytes words.now) (shelf_seen H.tells H.held H.faults H.last_failed shelf.old shelf.new) crac.now result }
+    ensures laws { IfOk result (λ reductions. All (IsReduction crac.now.elements) reductions) }
+{
+    if name_for(words, Document::Reductions).is_none() {
+        return Ok(Items::new(alloc));
+    }
+    let bytes = fetch_document(alloc, words, Document::Reductions, shelf)?;
+    reductions_in(alloc, bytes.as_slice(), crac)
+}

@@ -1,0 +1,135 @@
+//! The command `domain`: the rows of a domain, every row kept.
+
+ghost use Rattle.std.specs.Prelude.{◌≡◌, ◌⊎◌, [], All, IfOk, length, map, slice_get, string_bytes, unwrap_or};
+ghost use Rattle.fb_certificate.specs.Whole.{IsCracOver, IsWhole};
+ghost use Rattle.glsk_keys.specs.Laws.{AreKeys};
+ghost use Rattle.run_settings.specs.Laws.{AreSettings};
+ghost use Rattle.run_settings.specs.ReductionLaws.{IsReduction};
+ghost use Rattle.run_settings.specs.Views.{said};
+ghost use Rattle.fbcc_core.specs.Commands.{computes, domain_inputs, fault_of, puts_together, domain_work as domain_steps};
+ghost use Rattle.fbcc_core.specs.Seen.{shelf_seen};
+ghost use Rattle.fbcc_core.specs.Steps.{IsMemory};
+ghost use Rattle.fbcc_core.specs.Words.{Asks};
+
+use crate::answer::Fault;
+use crate::documents::{
+    read_crac_document, read_grid_document, read_keys_document, read_reductions_document,
+    read_settings_document,
+};
+use crate::request::Command;
+use crate::work::Work;
+use domain_maker::make_certificate;
+use domain_report::write_domain;
+use fb_base::Shelf;
+use fb_certificate::Inputs;
+use fb_types::{Crac, Grid, Items, Node, Text};
+use glsk_keys::Keys;
+use run_inputs::{InputsError, run_inputs};
+use run_settings::{Reduction, Settings};
+use std::alloc::{AllocError, Global};
+
+/// Reads the documents that the words name, and computes the domain.
+pub fn domain_work<H: Shelf>(alloc: Global, words: &[String], shelf: &mut H) -> Result<Work, Fault>
+    requires { Asks (map string_bytes words.now) Command.Domain }
+    ensures { domain_steps (map string_bytes words.now) (shelf_seen H.tells H.held H.faults H.last_failed shelf.old shelf.new) result }
+{
+    let inputs = inputs_of(alloc, words, shelf)?;
+    compute(alloc, &inputs)
+}
+
+/// The documents, one after another, and the grid states.
+fn inputs_of<H: Shelf>(alloc: Global, words: &[String], shelf: &mut H) -> Result<Inputs, Fault>
+    requires { Asks (map string_bytes words.now) Command.Domain }
+    ensures steps { domain_inputs (map string_bytes words.now) (shelf_seen H.tells H.held H.faults H.last_failed shelf.old shelf.new) result }
+    ensures whole { IfOk result IsWhole }
+{
+    let grid = read_grid_document(alloc, words, shelf)?;
+    let crac = read_crac_document(alloc, words, &grid, shelf)?;
+    let settings = read_settings_document(alloc, words, &grid, shelf)?;
+    let keys = read_keys_document(alloc, words, &grid, &settings, shelf)?;
+    let reductions = read_reductions_document(alloc, words, &crac, shelf)?;
+    put_together(alloc, grid, crac, settings, keys, reductions)
+}
+
+/// The inputs of these parts, with the grid states.
+fn put_together(
+    alloc: Global,
+    grid: Grid,
+    crac: Crac,
+    settings: Settings,
+    keys: Keys,
+    reductions: Items<Reduction>,
+) -> Result<Inputs, Fault>
+    requires crac { IsCracOver (length grid.branches) crac }
+    requires settings { AreSettings grid.nodes (said settings) }
+    requires keys { AreKeys grid.nodes settings.zones keys }
+    requires reductions { All (IsReduction crac.elements) reductions }
+    ensures step { puts_together grid crac settings keys reductions result }
+    ensures whole { IfOk result IsWhole }
+{
+    let codes = match codes_of(alloc, grid.nodes.as_slice()) {
+        Ok(codes) => codes,
+        Err(e) => return Err(Fault::Memory(e)),
+    };
+    match run_inputs(alloc, grid, crac, settings, keys, reductions) {
+        Ok(inputs) => Ok(inputs),
+        Err(error) => Err(refusal(alloc, &codes, error)),
+    }
+}
+
+/// The codes of the nodes, in their order.
+fn codes_of(alloc: Global, nodes: &[Node]) -> Result<Items<Text>, AllocError>
+    ensures { IfOk result (λ codes. codes ≡ map (λ n. n.code) nodes.now) }
+{
+    let mut codes = Items::new(alloc);
+    for node in nodes {
+        let code = Text::from_text(alloc, node.code.as_text())?;
+        codes.add(code)?;
+    }
+    Ok(codes)
+}
+
+/// The fault that tells why there are no inputs, over a grid whose nodes have these codes.
+fn refusal(alloc: Global, codes: &Items<Text>, error: InputsError) -> Fault
+    ensures { (grid : Grid) → codes.now ≡ map (λ n. n.code) grid.nodes → (result ≡ fault_of grid error) ⊎ IsMemory result }
+{
+    match error {
+        InputsError::NoSlack => Fault::NoSlack,
+        InputsError::SplitGrid { state, node } => {
+            match Text::from_text(alloc, code_at(codes, node)) {
+                Ok(node) => Fault::SplitGrid { state, node },
+                Err(e) => Fault::Memory(e),
+            }
+        }
+        InputsError::RangeExceeded { state } => Fault::RangeExceeded { state },
+        InputsError::Memory(e) => Fault::Memory(e),
+    }
+}
+
+/// The code at a place, counted from 0. It is empty past the end.
+fn code_at(codes: &Items<Text>, place: u32) -> &str
+    ensures { result.now ≡ unwrap_or (slice_get codes.now place) [] }
+{
+    match codes.get(u64::from(place)) {
+        Some(code) => code.as_text(),
+        None => "",
+    }
+}
+
+/// The certificate's text.
+fn compute(alloc: Global, inputs: &Inputs) -> Result<Work, Fault>
+    requires { IsWhole inputs.now }
+    ensures { computes inputs.now result }
+{
+    let certificate = match make_certificate(alloc, inputs) {
+        Ok(certificate) => certificate,
+        Err(e) => return Err(Fault::Memory(e)),
+    };
+    match write_domain(alloc, inputs, &certificate) {
+        Ok(text) => Ok(Work {
+            text: Items::from_vec(text),
+            verdict: None,
+        }),
+        Err(e) => Err(Fault::Memory(e)),
+    }
+}
