@@ -1,12 +1,11 @@
 -- The rows of a valid certificate have the capacity theorem.
 use Rattle.std.proofs.Common.{◌≡◌, ℕ, zero, suc, ◌-◌, ◌<◌, Bool, true, false, List, [], ◌∷◌, length, get_or, map, All, refl, sym, ap, subst, ◌∙◌, arith, pos, ℤ}
 use Rattle.std.specs.Prelude.{Option, Some, None, IfSome, slice_get, ◌==◌, ◌&&◌, ◌||◌, not}
-use Rattle.std.specs.List.{AllZip, list_any}
+use Rattle.std.specs.List.{AllZip}
 use Rattle.std.specs.Option.{option_map_or}
 use Rattle.std.proofs.lemmas.Bool.{eqb-true}
 use Rattle.std.proofs.lemmas.List.Elements.{All-head, All-tail}
-use Rattle.fractions.specs.Fractions.{AtMost}
-use Rattle.fb_types.specs.Domain.{IsPoint, Meets, MeetsCited, Follows, row_at}
+use Rattle.fb_types.specs.Domain.{IsPoint, Meets, Follows, row_at}
 use Rattle.fb_types.specs.FollowsLaws.{Follows-implies}
 use Rattle.fb_types.specs.declared.grid.Grid.{Grid}
 use Rattle.fb_types.specs.declared.rows.Bounds.{Bounds}
@@ -14,18 +13,17 @@ use Rattle.fb_types.specs.declared.rows.Half.{Half}
 use Rattle.grid_state.specs.GridState.{GridState}
 use Rattle.row_numbers.specs.Spreads.{IsSelected}
 use Rattle.row_security.specs.Choices.{HasChoices}
-use Rattle.row_security.specs.Rows.{Row, KeyedZone, Choice, IsChoice, PointChoice, row_flow_at, top_of_row, spread_of_row}
+use Rattle.row_security.specs.Rows.{Row, KeyedZone, Choice, IsChoice, spread_of_row}
 use Rattle.domain_rows.specs.Brackets.{IsInBox}
 use Rattle.cnec_selection.specs.declared.Class.{Class}
 use Rattle.cnec_selection.specs.declared.Class.TheVariants.{Below, Doubtful, Certain}
-use Rattle.cnec_rows.specs.RowNumbers.{IsOfClass, IsAlwaysSelected, IsRightRow}
+use Rattle.cnec_rows.specs.RowNumbers.{IsOfClass, IsAlwaysSelected}
 use Rattle.cnec_rows.specs.declared.types.RowProof.{RowProof}
 use Rattle.run_settings.specs.Laws.{core_bounds}
 use Rattle.fb_certificate.specs.CracRows.{CracRow, crac_rows, state_of_row}
-use Rattle.fb_certificate.specs.Whole.{row_zones}
-use Rattle.fb_certificate.specs.Lists.{ListKind, is_inner, is_outer, inner_half, outer_half, inner_list, outer_list, numbered, is_listed, is_removed, is_kept, IsCite, AreCites}
-use Rattle.fb_certificate.specs.Valid.{RowPlace, IsPlaceOf, branch_of, stated, IsRowOf, IsValid}
-use Rattle.fb_certificate.specs.Capacity.{zones_in, exact_row, IsSafe, IsSafeRow, IsSecure, IsPosition, MeetsRow, MeetsInner, MeetsOuter, IsRight, IsCapacity}
+use Rattle.fb_certificate.specs.Lists.{ListKind, is_inner, is_outer, outer_half, inner_list, outer_list, numbered, is_listed, is_removed, is_kept, IsCite, AreCites}
+use Rattle.fb_certificate.specs.Valid.{IsRowOf, IsValid}
+use Rattle.fb_certificate.specs.Capacity.{zones_in, exact_row, IsSafeRow, IsSecure, IsPosition, MeetsRow, MeetsInner, MeetsOuter, IsRight, IsCapacity}
 use Rattle.fb_certificate.specs.declared.types.Inputs.{Inputs}
 use Rattle.fb_certificate.specs.declared.types.Cite.{Cite}
 use Rattle.fb_certificate.specs.declared.types.Certificate.{Certificate}

@@ -1,6 +1,6 @@
 -- Two steps that cannot come to different results, unless memory runs out.
 use Rattle.std.proofs.Common.{◌≡◌, ◌⊎◌, inl, inr, subst}
-use Rattle.std.specs.Prelude.{Result, Ok, Err}
+use Rattle.std.specs.Prelude.{Ok, Err}
 use Rattle.fbcc_core.specs.Steps.{Step, step, after, IsMemory}
 use Rattle.fbcc_core.specs.declared.answer.Fault.{Fault}
 

@@ -1,6 +1,6 @@
 -- What follows of the cause of an answer: that it is told or becomes want of memory, and that no other is caused.
-use Rattle.std.proofs.Common.{◌≡◌, ◌⊎◌, ℕ, List, [], ◌∷◌, inl, inr, refl, sym, ap, subst, ◌∙◌}
-use Rattle.std.specs.Prelude.{Option, Some, None, Result, Ok, Err, IsTrue, codes}
+use Rattle.std.proofs.Common.{◌≡◌, ◌⊎◌, ℕ, List, ◌∷◌, inl, inr, refl, sym, ap, subst, ◌∙◌}
+use Rattle.std.specs.Prelude.{Option, Some, None, Result, Ok, Err, IsTrue}
 use Rattle.serde_json.specs.Data.{Data}
 use Rattle.fb_types.specs.declared.crac.Crac.{Crac}
 use Rattle.fb_types.specs.declared.grid.Grid.{Grid}
@@ -11,13 +11,13 @@ use Rattle.fb_certificate.specs.declared.types.Inputs.{Inputs}
 use Rattle.rows_document.specs.declared.reader.RowsDocument.{RowsDocument}
 use Rattle.run_inputs.specs.declared.InputsError.{InputsError}
 use Rattle.run_inputs.specs.declared.InputsError.TheVariants as refusal
-use Rattle.fbcc_core.specs.Causes.{Comes, IsMisused, IsDone, IsRefusedBy, IsUnwritten, IsOutOfMemory, IsStarved, IsCaused, Refuses, Judges, Completes, IsUntouched}
-use Rattle.fbcc_core.specs.Commands.{IsYes, IsNo, judges as judges_document, nets, computes, fault_of, puts_together, domain_inputs, rows_work, net_work, domain_work, work_of}
-use Rattle.fbcc_core.specs.Reading.{IsUnread, IsLonger, fetched, tree_read, grid_read, crac_read, settings_read, keys_read, reductions_read, reads_rows, reads_grid, reads_tree, reads_crac, reads_settings, reads_keys, reads_reductions}
-use Rattle.fbcc_core.specs.Seen.{ShelfSeen, SinkSeen, ShelfFailed, SinkFailed}
+use Rattle.fbcc_core.specs.Causes.{Comes, IsOutOfMemory, IsCaused, Refuses, Judges, Completes, IsUntouched}
+use Rattle.fbcc_core.specs.Commands.{IsYes, IsNo, judges as judges_document, nets, computes, fault_of, puts_together, domain_inputs, domain_work, work_of}
+use Rattle.fbcc_core.specs.Reading.{fetched, tree_read, grid_read, crac_read, settings_read, keys_read, reductions_read, reads_rows, reads_grid, reads_tree, reads_crac, reads_settings, reads_keys, reads_reductions}
+use Rattle.fbcc_core.specs.Seen.{ShelfSeen, SinkSeen, ShelfFailed}
 use Rattle.fbcc_core.specs.Steps.{Step, after, IsMemory}
-use Rattle.fbcc_core.specs.Telling.{IsMade, IsKept, IsFaultKept}
-use Rattle.fbcc_core.specs.Words.{Asks, Accepts, word_of, spelled, given_options}
+use Rattle.fbcc_core.specs.Telling.{IsMade, IsKept}
+use Rattle.fbcc_core.specs.Words.{Asks, Accepts, word_of}
 use Rattle.fbcc_core.specs.declared.answer.Document.{Document}
 use Rattle.fbcc_core.specs.declared.answer.Document.TheVariants as document
 use Rattle.fbcc_core.specs.declared.answer.Fault.{Fault}
@@ -26,7 +26,7 @@ use Rattle.fbcc_core.specs.declared.request.Command.{Command}
 use Rattle.fbcc_core.specs.declared.request.Command.TheVariants as command
 use Rattle.fbcc_core.specs.declared.work.Work.{Work}
 use Rattle.fbcc_core.proofs.Agreement.{Agrees}
-use Rattle.fbcc_core.proofs.OneAnswer.{JudgeSame, Any, work_once, inputs_once}
+use Rattle.fbcc_core.proofs.OneAnswer.{JudgeSame, work_once, inputs_once}
 
 -- ---- The words ask for one command
 

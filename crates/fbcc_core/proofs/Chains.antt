@@ -1,6 +1,6 @@
 -- Steps one after another, and steps that are seen over a part of a call.
-use Rattle.std.proofs.Common.{◌≡◌, ◌⊎◌, ℕ, ◌≤◌, Bool, List, [], inl, inr, refl, sym, ap, subst, ◌∙◌, arith}
-use Rattle.std.specs.Prelude.{Option, Some, None, Result, Ok, Err, IsTrue}
+use Rattle.std.proofs.Common.{◌≡◌, ℕ, ◌≤◌, Bool, List, inl, inr, refl, sym, subst, ◌∙◌, arith}
+use Rattle.std.specs.Prelude.{Option, Result, Ok, Err, IsTrue}
 use Rattle.serde_json.specs.Data.{Data}
 use Rattle.fb_base.specs.Counts.{Rose}
 use Rattle.fb_base.specs.CountLaws.{Rose-after}
@@ -17,7 +17,6 @@ use Rattle.fbcc_core.specs.declared.work.Work.{Work}
 use Rattle.fbcc_core.specs.Reading.{reads_rows, IsGiven, IsUnread, IsLonger, fetched, tree_read, reads_tree, grid_read, reads_grid, crac_read, reads_crac, settings_read, reads_settings, keys_read, reads_keys, reductions_read, reads_reductions}
 use Rattle.fbcc_core.specs.Seen.{ShelfSeen, shelf_seen}
 use Rattle.fbcc_core.specs.Steps.{Step, after}
-use Rattle.fbcc_core.specs.Words.{name_given}
 use Rattle.fbcc_core.specs.declared.answer.Document.{Document}
 use Rattle.fbcc_core.specs.declared.answer.Document.TheVariants as document
 use Rattle.fbcc_core.specs.declared.answer.Fault.{Fault}

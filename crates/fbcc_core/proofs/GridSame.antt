@@ -2,7 +2,7 @@
 use Rattle.std.proofs.Common.{◌≡◌, ℕ, ◌≤◌, Bool, true, false, List, length, refl, subst}
 use Rattle.std.proofs.Math.Bridge.{le_prop}
 use Rattle.std.proofs.Math.Dec.{T}
-use Rattle.fb_types.specs.GridRanges.{IsBranch, AreInjections, AreBranches}
+use Rattle.fb_types.specs.GridRanges.{AreInjections, AreBranches}
 use Rattle.fb_types.specs.declared.grid.Node.{Node}
 use Rattle.fb_types.specs.declared.grid.Branch.{Branch}
 use Rattle.fb_types.specs.declared.grid.Grid.{Grid}

@@ -5,10 +5,8 @@ use Rattle.std.specs.Option.{IsSomeAnd}
 use Rattle.std.specs.FinMap.{get}
 use Rattle.std.proofs.lemmas.Option.{same_Some}
 use Rattle.serde_json.specs.Data.{Data}
-use Rattle.fb_base.specs.Documents.{Documents, Holds}
 use Rattle.fb_types.specs.declared.crac.Crac.{Crac}
 use Rattle.fb_types.specs.declared.grid.Grid.{Grid}
-use Rattle.fb_json.specs.Tree.{HasTree}
 use Rattle.fb_json.proofs.Trees.{same_tree}
 use Rattle.first_fault.proofs.FirstFaultLaws.{IsFirstFault-same, IsFirstFault-fault}
 use Rattle.ucte_reader.specs.File.{IsGridOf}
@@ -17,7 +15,7 @@ use Rattle.ucte_reader.specs.declared.kind.GridError.TheVariants as grid_error
 use Rattle.ucte_reader.proofs.GridLaws.{fault_from}
 use Rattle.crac_model.specs.Crac.{crac_of}
 use Rattle.run_settings.specs.Settings.{Said, settings_of}
-use Rattle.run_settings.specs.Reductions.{row_fault, document_rows, HasNoReductionFault, IsReductionFault, reductions_of}
+use Rattle.run_settings.specs.Reductions.{row_fault, document_rows}
 use Rattle.run_settings.specs.Views.{said}
 use Rattle.run_settings.specs.declared.model.Settings.{Settings}
 use Rattle.run_settings.specs.declared.reduction.Reduction.{Reduction}
@@ -25,7 +23,6 @@ use Rattle.run_settings.specs.declared.reduction.ReductionKind.{ReductionKind}
 use Rattle.glsk_keys.specs.Columns.{keys_of}
 use Rattle.glsk_keys.specs.declared.model.Keys.{Keys}
 use Rattle.rows_document.specs.Table.{lines_of}
-use Rattle.rows_document.specs.Reading.{IsReading, IsFirstBadLine}
 use Rattle.rows_document.specs.declared.reader.RowsDocument.{RowsDocument}
 use Rattle.rows_document.proofs.ReadSoFar.{first_bad_line_same}
 use Rattle.rows_document.proofs.Drafted.{reading_same}
@@ -33,11 +30,10 @@ use Rattle.fb_certificate.specs.declared.types.Inputs.{Inputs}
 use Rattle.run_inputs.specs.Refusals.{IsRefused}
 use Rattle.run_inputs.specs.declared.InputsError.{InputsError}
 use Rattle.run_inputs.specs.declared.InputsError.TheVariants as refusal
-use Rattle.fbcc_core.specs.Commands.{IsYes, IsNo, judges, rows_work, IsNet, nets, net_work, AreInputs, fault_of, puts_together, domain_inputs, IsDomain, computes, domain_work, work_of}
+use Rattle.fbcc_core.specs.Commands.{IsYes, IsNo, judges, rows_work, nets, net_work, AreInputs, fault_of, puts_together, domain_inputs, computes, domain_work, work_of}
 use Rattle.fbcc_core.specs.Reading.{IsGiven, IsUnread, IsLonger, fetched, reads_grid, reads_tree, reads_crac, reads_settings, reads_keys, reads_reductions, reads_rows, grid_read, tree_read, crac_read, settings_read, keys_read, reductions_read}
 use Rattle.fbcc_core.specs.Seen.{ShelfSeen, ShelfFailed}
-use Rattle.fbcc_core.specs.Statuses.{limit}
-use Rattle.fbcc_core.specs.Steps.{Step, step, after, IsMemory}
+use Rattle.fbcc_core.specs.Steps.{after, IsMemory}
 use Rattle.fbcc_core.specs.Words.{name_given}
 use Rattle.fbcc_core.specs.declared.answer.Document.{Document}
 use Rattle.fbcc_core.specs.declared.answer.Document.TheVariants as document

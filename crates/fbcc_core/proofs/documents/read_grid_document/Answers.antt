@@ -1,8 +1,3 @@
-use Rattle.std.proofs.Common.{subst}
-use Rattle.std.proofs.Common.{map, string_bytes}
-use Rattle.fbcc_core.specs.Reading.{fetched, reads_grid}
-use Rattle.fbcc_core.specs.Seen.{shelf_seen}
-use Rattle.fbcc_core.specs.declared.answer.Document.TheVariants as document
 use Rattle.fbcc_core.proofs.Chains.{grid_joined}
 use Rattle.fbcc_core.proofs.documents.read_grid_document.Goals as goal
 
