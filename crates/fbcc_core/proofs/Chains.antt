@@ -16,6 +16,7 @@ use Rattle.fbcc_core.specs.Commands.{judges, rows_work, nets, net_work, puts_tog
 use Rattle.fbcc_core.specs.declared.work.Work.{Work}
 use Rattle.fbcc_core.specs.Reading.{reads_rows, IsGiven, IsUnread, IsLonger, fetched, tree_read, reads_tree, grid_read, reads_grid, crac_read, reads_crac, settings_read, reads_settings, keys_read, reads_keys, reductions_read, reads_reductions}
 use Rattle.fbcc_core.specs.Seen.{ShelfSeen, shelf_seen}
+use Rattle.fbcc_core.specs.Statuses.{limit}
 use Rattle.fbcc_core.specs.Steps.{Step, after}
 use Rattle.fbcc_core.specs.declared.answer.Document.{Document}
 use Rattle.fbcc_core.specs.declared.answer.Document.TheVariants as document
@@ -193,7 +194,7 @@ module _ (words : List (List ℕ)) (part whole : ShelfSeen) (ends : IsEnd part w
     is = l.is;
     name = l.name;
     named = l.named;
-    told = λ t. subst (λ (held : Documents). HasMoreThan held l.name 67108864) ends.is_part.documents (l.told (subst IsTrue (sym ends.is_part.tells) t));
+    told = λ t. subst (λ (held : Documents). HasMoreThan held l.name limit) ends.is_part.documents (l.told (subst IsTrue (sym ends.is_part.tells) t));
   }
 
   fetched_end : (d : Document) (fault : Fault) → fetched words part d (Err fault) → fetched words whole d (Err fault)

@@ -33,6 +33,7 @@ use Rattle.run_inputs.specs.declared.InputsError.TheVariants as refusal
 use Rattle.fbcc_core.specs.Commands.{IsYes, IsNo, judges, rows_work, nets, net_work, AreInputs, fault_of, puts_together, domain_inputs, computes, domain_work, work_of}
 use Rattle.fbcc_core.specs.Reading.{IsGiven, IsUnread, IsLonger, fetched, reads_grid, reads_tree, reads_crac, reads_settings, reads_keys, reads_reductions, reads_rows, grid_read, tree_read, crac_read, settings_read, keys_read, reductions_read}
 use Rattle.fbcc_core.specs.Seen.{ShelfSeen, ShelfFailed}
+use Rattle.fbcc_core.specs.Statuses.{limit}
 use Rattle.fbcc_core.specs.Steps.{after, IsMemory}
 use Rattle.fbcc_core.specs.Words.{name_given}
 use Rattle.fbcc_core.specs.declared.answer.Document.{Document}
@@ -70,8 +71,8 @@ module _ (words : List (List ℕ)) (shelf : ShelfSeen) (told : IsTrue shelf.tell
   not_longer d a fault g l =
       let names : l.name ≡ g.name = same_Some l.name g.name (sym l.named ∙ g.named) in
       let held : get shelf.documents l.name ≡ Some a = ap (get shelf.documents) names ∙ g.told told in
-      let more : 67108864 < length a = more_of (get shelf.documents l.name) a 67108864 held (l.told told) in
-      let within : length a ≤ 67108864 = g.within in
+      let more : limit < length a = more_of (get shelf.documents l.name) a limit held (l.told told) in
+      let within : length a ≤ limit = g.within in
       omega arith
 
   not_refused : (d : Document) (a : List ℕ) (fault : Fault) → IsGiven words shelf d a → IsUnread words shelf d fault ⊎ IsLonger words shelf d fault → ⊥

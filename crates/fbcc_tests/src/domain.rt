@@ -73,6 +73,12 @@ const TWENTIETH: &str =
 const NEAR_TWENTIETH: &str =
     "##L\nBBE1AA1  NNL1AA1  1 0 0.0000 0.0500 0.000000   2000\nBBE1AA1  NNL1AA1  2 0 0.0000 0.9500 0.000000   2000\n";
 
+/// A line and a transformer side by side, which shifts by 0.049958395723 rad.
+const SHIFTED: &str =
+    "##L\nBBE1AA1  BBE2AA1  1 0 0.0000 14.440 0.000000   2000\n##T\nBBE1AA1  BBE2AA1  2 0 380.0 380.0 500.0 0.0000 14.440 0.000000 0.0000   2000\n##R\nBBE1AA1  BBE2AA1  2                     1.00 90.00 10   5       ASYM\n";
+
+const SECOND_BE: &str = "BBE2AA1  BE2          0 0 380.00    0.00    0.00    0.00\n";
+
 // ---- Elements
 
 const BASE: [&str; 3] = [
@@ -84,6 +90,12 @@ const BASE: [&str; 3] = [
 const ON_SECOND: [&str; 3] = [
     "\"contingencies\":[],\"flowCnecs\":[",
     "{\"id\":\"c1\",\"networkElementId\":\"BBE1AA1  NNL1AA1  2\",\"instant\":\"preventive\",\"optimized\":true,\"thresholds\":[{\"unit\":\"megawatt\",\"min\":-500,\"max\":500}]}",
+    "]}",
+];
+
+const ON_BOTH: [&str; 3] = [
+    "\"contingencies\":[],\"flowCnecs\":[",
+    "{\"id\":\"c1\",\"networkElementId\":\"BBE1AA1  BBE2AA1  1\",\"instant\":\"preventive\",\"optimized\":true,\"thresholds\":[{\"unit\":\"megawatt\",\"min\":-500,\"max\":500}]},{\"id\":\"c2\",\"networkElementId\":\"BBE1AA1  BBE2AA1  2\",\"instant\":\"preventive\",\"optimized\":true,\"thresholds\":[{\"unit\":\"megawatt\",\"min\":-500,\"max\":500}]}",
     "]}",
 ];
 
@@ -135,8 +147,14 @@ const TWO: &str =
 const THREE: &str =
     "{\"moment\":\"2024-05-01T10:30:00Z\",\"zones\":[{\"id\":\"BE\",\"min\":-1000,\"max\":1000},{\"id\":\"NL\",\"min\":-1000,\"max\":1000},{\"id\":\"FR\",\"min\":-1000,\"max\":1000}]}";
 
+const ONE: &str =
+    "{\"moment\":\"2024-05-01T10:30:00Z\",\"thresholdPermille\":0,\"zones\":[{\"id\":\"BE\",\"min\":-1000,\"max\":1000}]}";
+
 const HIGH_THRESHOLD: &str =
     "{\"moment\":\"2024-05-01T10:30:00Z\",\"thresholdPermille\":667,\"zones\":[{\"id\":\"BE\",\"min\":-1000,\"max\":1000},{\"id\":\"NL\",\"min\":-1000,\"max\":1000},{\"id\":\"FR\",\"min\":-1000,\"max\":1000}]}";
+
+const KEYS_OF_ONE: &str =
+    "{\"series\":[{\"zone\":\"BE\",\"from\":\"2024-05-01T00:00:00Z\",\"to\":\"2024-05-02T00:00:00Z\",\"blocks\":[{\"business\":\"GSK\",\"share\":100,\"kind\":\"country\"}]}]}";
 
 const KEYS_OF_TWO: &str =
     "{\"series\":[{\"zone\":\"BE\",\"from\":\"2024-05-01T00:00:00Z\",\"to\":\"2024-05-02T00:00:00Z\",\"blocks\":[{\"business\":\"GSK\",\"share\":100,\"kind\":\"country\"}]},{\"zone\":\"NL\",\"from\":\"2024-05-01T00:00:00Z\",\"to\":\"2024-05-02T00:00:00Z\",\"blocks\":[{\"business\":\"GSK\",\"share\":100,\"kind\":\"country\"}]}]}";
@@ -145,6 +163,9 @@ const KEYS_OF_THREE: &str =
     "{\"series\":[{\"zone\":\"BE\",\"from\":\"2024-05-01T00:00:00Z\",\"to\":\"2024-05-02T00:00:00Z\",\"blocks\":[{\"business\":\"GSK\",\"share\":100,\"kind\":\"country\"}]},{\"zone\":\"NL\",\"from\":\"2024-05-01T00:00:00Z\",\"to\":\"2024-05-02T00:00:00Z\",\"blocks\":[{\"business\":\"GSK\",\"share\":100,\"kind\":\"country\"}]},{\"zone\":\"FR\",\"from\":\"2024-05-01T00:00:00Z\",\"to\":\"2024-05-02T00:00:00Z\",\"blocks\":[{\"business\":\"GSK\",\"share\":100,\"kind\":\"country\"}]}]}";
 
 // ---- Tables
+
+const HEADER_OF_ONE: &str =
+    "row,element,instant,contingency,direction,class,inner,outer,r_in,r_out,gap,a:BE,inner_by,outer_by\n";
 
 const HEADER_OF_TWO: &str =
     "row,element,instant,contingency,direction,class,inner,outer,r_in,r_out,gap,a:BE,a:NL,inner_by,outer_by\n";
@@ -164,7 +185,7 @@ struct Case {
     tables: [&'static str; 2],
 }
 
-const CASES: [Case; 12] = [
+const CASES: [Case; 13] = [
     Case {
         name: "two nodes",
         nodes: [BE, NL, ""],
@@ -305,6 +326,21 @@ const CASES: [Case; 12] = [
         header: HEADER_OF_TWO,
         tables: [
             "1,c1,preventive,,DIRECT,DOUBTFUL,KEPT,-,499999999,500000001,2,0,-50000000000,,\n2,c1,preventive,,OPPOSITE,DOUBTFUL,KEPT,-,499999999,500000001,2,0,50000000000,,\n",
+            "",
+        ],
+    },
+    // The shift drives b·φ/2 = 249791978.615 W round: against the line, and along the transformer. What it leaves of 500 MW is below
+    // the 350 MW that are to remain for trade.
+    Case {
+        name: "a phase shifter",
+        nodes: [BE, SECOND_BE, ""],
+        lines: SHIFTED,
+        elements: ON_BOTH,
+        settings: ONE,
+        keys: KEYS_OF_ONE,
+        header: HEADER_OF_ONE,
+        tables: [
+            "1,c1,preventive,,DIRECT,CERTAIN,KEPT,KEPT,749791978,749791979,1,-250000000000,,\n2,c1,preventive,,OPPOSITE,CERTAIN,KEPT,KEPT,350000000,350000000,0,250000000000,,\n3,c2,preventive,,DIRECT,CERTAIN,KEPT,KEPT,350000000,350000000,0,-250000000000,,\n4,c2,preventive,,OPPOSITE,CERTAIN,KEPT,KEPT,749791978,749791979,1,250000000000,,\n",
             "",
         ],
     },
