@@ -1,2 +1,4 @@
+pub mod Doubled
+pub mod Guessed
 pub mod Made
 pub mod Proposed

@@ -32,7 +32,7 @@ made_all s f q is P none each =
 pub made_free : (s : GridState) (f : ℕ → ℤ) (q : List ℤ) (n : ℕ) → IsMade s f q n → (i : ℕ) → i < n → is_free s i ≡ true → at q i ≡ f i
 made_free s f q n is i h free_i = is.values i h ∙ cond-true (is_free s i) (f i) (pos 0) free_i
 
-sizes : (s : GridState) (q : List ℤ) → length q ≡ classes_of s → total_below (classes_of s) (λ i. nat_abs (at q i)) ≡ size_of q
+pub sizes : (s : GridState) (q : List ℤ) → length q ≡ classes_of s → total_below (classes_of s) (λ i. nat_abs (at q i)) ≡ size_of q
 sizes s q same = ap (λ (n : ℕ). total_below n (λ i. nat_abs (at q i))) (sym same) ∙ total_of_list nat_abs q (pos 0)
 
 -- the right side of a barrier adds up to twice the susceptances

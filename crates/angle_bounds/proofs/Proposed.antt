@@ -66,7 +66,7 @@ drop_over-sub n (e ∷ es) f g h x y z all ez eh =
     let product = ap (λ (k : ℤ). pos e.b *ℤ k) d ∙ *ℤ-sub (pos e.b) (x -ℤ f e.to) (y -ℤ g e.to) in
     omega (arith, ints)
 
-laplacian-difference : (s : GridState) → IsSound s → (a b w : List ℤ) → IsDifference a b w (classes_of s) → (i : ℕ) → i < classes_of s → laplacian_at s w i ≡ laplacian_at s a i -ℤ laplacian_at s b i
+pub laplacian-difference : (s : GridState) → IsSound s → (a b w : List ℤ) → IsDifference a b w (classes_of s) → (i : ℕ) → i < classes_of s → laplacian_at s w i ≡ laplacian_at s a i -ℤ laplacian_at s b i
 laplacian-difference s sound a b w is i h =
     drop_over-sub (classes_of s) (row_of s i) (at a) (at b) (at w) (at a i) (at b i) (at w i) (row_edges s sound i h) (is.values i h) is.values
 

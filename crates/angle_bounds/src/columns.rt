@@ -1,151 +1,91 @@
 //! Encloses the angles of a right side.
 
-ghost use Rattle.std.specs.Prelude.{◌≡◌, ◌^◌, ◌<◌, ◌≤◌, ◌≤ℤ◌, ◌-ℤ◌, pos, true, length, All, IfOk};
-ghost use Rattle.std.specs.Bool.{OnTrue, OnFalse};
-ghost use Rattle.whole_laws.specs.Sums.{at, IsWithin};
-ghost use Rattle.grid_state.specs.GridState.{classes_of, is_free};
+ghost use Rattle.std.specs.Prelude.{◌≡◌, ◌*◌, ◌^◌, ◌<◌, ◌≤◌, pos, length, All, IfOk, IfSome};
+ghost use Rattle.std.specs.Bool.{OnTrue};
+ghost use Rattle.grid_state.specs.GridState.{classes_of};
 ghost use Rattle.grid_laplacian.specs.Sizes.{size_of};
 ghost use Rattle.grid_laplacian.specs.Ranges.{HasRoomFor, greatest_total_of};
-ghost use Rattle.grid_laplacian.specs.Enclosures.{IsBarrier, IsNear, EnclosesWithin, EnclosesColumn, HoldsAngles};
-ghost use Rattle.angle_bounds.specs.RightSides.{above_zero, below_zero, free_value, part_above, part_below, IsMade, IsDifference, IsProposed};
+ghost use Rattle.grid_laplacian.specs.Enclosures.{IsBarrier, EnclosesWithin, EnclosesColumn, HoldsAngles};
+ghost use Rattle.angle_bounds.specs.RightSides.{IsProposed, IsAtMostOne};
+ghost use Rattle.angle_bounds.specs.Approaches.{Approaches, HasLeastKappa};
+ghost use Rattle.sparse_factor.specs.Guesses.{IsGuess};
 
-use angle_sweeps::sweep_up;
+use crate::corrections::{Approach, approach_of, corrected};
+use crate::remainders::{greater_total, is_settled, is_total_within};
+use crate::swept::{swept, swept_on};
 use fb_types::{Angles, Items};
-use grid_laplacian::{is_free, residual_of};
+use grid_laplacian::live_classes;
 use grid_state::State;
+use sparse_factor::{Factor, Solver, total_of};
 use std::alloc::{AllocError, Global};
 
-fn above_zero(z: i128) -> i128
-    ensures { result ≡ above_zero z }
+/// 0 where nothing is left, else 1.
+fn kappa_of(left: &[i128]) -> u8
+    ensures { HasLeastKappa left.now result }
 {
-    if z < 0 { 0 } else { z }
+    if total_of(left) == 0 { 0 } else { 1 }
 }
 
-fn below_zero(z: i128) -> i128
-    requires { IsWithin (2 ^ 121) z }
-    ensures { result ≡ below_zero z }
+/// Angles with kappa 0 where they leave nothing, else 1.
+fn with_kappa(approach: Approach) -> Angles
+    ensures same { result.w ≡ approach.w }
+    ensures least { HasLeastKappa approach.left result.kappa }
 {
-    if z < 0 { -z } else { 0 }
+    let Approach { w, left } = approach;
+    let kappa = kappa_of(left.as_slice());
+    Angles { kappa, w }
 }
 
-/// The part of `p` above 0 at a live class but the slack's, and 0 for all others.
-fn above_at(state: &State, p: &[i128], class: u32) -> i128
-    requires class { class < classes_of state.now }
-    requires each_class { length p.now ≡ classes_of state.now }
-    ensures { result ≡ free_value state.now (part_above p.now) class }
+/// Whether what is left is small enough to be left: below the susceptance everywhere, or at most as much where more than one
+/// class is live beside the slack's.
+fn is_done(state: &State, left: &[i128]) -> bool
+    requires { length left.now ≡ classes_of state.now }
+    ensures { OnTrue result (IsAtMostOne state.now left.now (classes_of state.now)) }
 {
-    if is_free(state, class) {
-        above_zero(p[class as usize])
-    } else {
-        0
-    }
+    is_settled(state, left, live_classes(state) > 2)
 }
 
-/// The size of the part of `p` below 0 at a live class but the slack's, and 0 for all others.
-fn below_at(state: &State, p: &[i128], class: u32) -> i128
-    requires class { class < classes_of state.now }
-    requires each_class { length p.now ≡ classes_of state.now }
-    requires room { HasRoomFor state.now (size_of p.now) }
-    ensures { result ≡ free_value state.now (part_below p.now) class }
-{
-    state.sound();
-    if is_free(state, class) {
-        below_zero(p[class as usize])
-    } else {
-        0
-    }
-}
-
-fn parts_above(alloc: Global, state: &State, p: &[i128]) -> Result<Items<i128>, AllocError>
-    requires { length p.now ≡ classes_of state.now }
-    ensures { IfOk result (λ q. IsMade state.now (part_above p.now) q (classes_of state.now)) }
-{
-    let mut parts = Items::new(alloc);
-    for class in 0..state.classes() {
-        parts.add(above_at(state, p, class))?;
-    }
-    Ok(parts)
-}
-
-fn parts_below(alloc: Global, state: &State, p: &[i128]) -> Result<Items<i128>, AllocError>
+/// Proposes angles where a guess leaves too much: what it leaves is swept, or all of `p` where it leaves more than `p`.
+fn proposed(
+    alloc: Global,
+    state: &State,
+    p: &Items<i128>,
+    approach: &Approach,
+) -> Result<Items<i128>, AllocError>
     requires each_class { length p.now ≡ classes_of state.now }
     requires room { HasRoomFor state.now (size_of p.now) }
-    ensures { IfOk result (λ q. IsMade state.now (part_below p.now) q (classes_of state.now)) }
-{
-    let mut parts = Items::new(alloc);
-    for class in 0..state.classes() {
-        parts.add(below_at(state, p, class))?;
-    }
-    Ok(parts)
-}
-
-/// The difference of two numbers that are not negative.
-fn apart(a: i128, b: i128) -> i128
-    requires a { pos 0 ≤ℤ a }
-    requires b { pos 0 ≤ℤ b }
-    ensures { result ≡ a -ℤ b }
-{
-    a - b
-}
-
-/// The differences of two lists of numbers that are not negative.
-fn difference(alloc: Global, a: &[i128], b: &[i128]) -> Result<Items<i128>, AllocError>
-    requires lengths { length a.now ≡ length b.now }
-    requires a { All (λ z. pos 0 ≤ℤ z) a.now }
-    requires b { All (λ z. pos 0 ≤ℤ z) b.now }
-    ensures { IfOk result (λ w. IsDifference a.now b.now w (length a.now)) }
-{
-    let mut w = Items::new(alloc);
-    for i in 0..a.len() {
-        w.add(apart(a[i], b[i]))?;
-    }
-    Ok(w)
-}
-
-/// Proposes angles of the right side: what is above 0 and what is below is swept apart.
-fn swept(alloc: Global, state: &State, p: &Items<i128>) -> Result<Items<i128>, AllocError>
-    requires each_class { length p.now ≡ classes_of state.now }
-    requires room { HasRoomFor state.now (size_of p.now) }
+    requires approaches { Approaches state.now p.now approach.now }
     ensures { IfOk result (λ w. IsProposed state.now p.now w) }
 {
-    state.sound();
-    let high = parts_above(alloc, state, p.as_slice())?;
-    let low = parts_below(alloc, state, p.as_slice())?;
-    let above = sweep_up(alloc, state, &high)?;
-    let below = sweep_up(alloc, state, &low)?;
-    difference(alloc, above.as_slice(), below.as_slice())
-}
-
-/// Whether nothing is left of `p` at any live class but the slack's.
-fn is_exact(state: &State, p: &[i128], w: &[i128]) -> bool
-    requires each_class { length p.now ≡ classes_of state.now }
-    requires room { HasRoomFor state.now (size_of p.now) }
-    requires proposed { IsProposed state.now p.now w.now }
-    ensures exact { OnTrue result (IsNear state.now p.now w.now 0) }
-    ensures inexact { OnFalse result (IsNear state.now p.now w.now 0 → ⊥) }
-{
-    state.sound();
-    for class in 0..state.classes() {
-        if is_free(state, class) && residual_of(state, p, w, class) != 0 {
-            return false;
-        }
-    }
-    true
-}
-
-/// The proposed angles with the least kappa that they need.
-fn with_kappa(state: &State, p: &[i128], w: Items<i128>) -> Angles
-    requires each_class { length p.now ≡ classes_of state.now }
-    requires room { HasRoomFor state.now (size_of p.now) }
-    requires proposed { IsProposed state.now p.now w }
-    ensures { EnclosesWithin state.now (size_of p.now) p.now result }
-{
-    let kappa = if is_exact(state, p, w.as_slice()) {
-        0
+    let most = greater_total(state, total_of(p.as_slice()));
+    if is_total_within(approach.left.as_slice(), most) {
+        swept_on(
+            alloc,
+            state,
+            p.as_slice(),
+            approach.w.as_slice(),
+            &approach.left,
+        )
     } else {
-        1
-    };
-    Angles { kappa, w }
+        swept(alloc, state, p)
+    }
+}
+
+/// The angles that are proposed where a guess leaves too much.
+fn swept_angles(
+    alloc: Global,
+    state: &State,
+    p: &Items<i128>,
+    approach: &Approach,
+) -> Result<Angles, AllocError>
+    requires each_class { length p.now ≡ classes_of state.now }
+    requires room { HasRoomFor state.now (size_of p.now) }
+    requires approaches { Approaches state.now p.now approach.now }
+    ensures { IfOk result (EnclosesWithin state.now (size_of p.now) p.now) }
+{
+    let w = proposed(alloc, state, p, approach)?;
+    let approach = approach_of(alloc, state, p.as_slice(), w)?;
+    Ok(with_kappa(approach))
 }
 
 /// Encloses the exact angles of the right side p: w, and the least of 0 and 1 as kappa for which |p - L·w| is at most kappa
@@ -172,7 +112,85 @@ pub fn enclose(
     // Angles of the right side exist, and their spans hold them.
     ensures holds { IfOk result (λ angles. HoldsAngles state.now barrier.now p.now angles) }
 {
+    let factor = Factor::new(alloc, state)?;
+    enclose_with(alloc, state, &factor, barrier, p)
+}
+
+/// The same with a factor of the state, for more than one right side. Any factor may be given: what is promised does not rest
+/// on it.
+pub fn enclose_with(
+    alloc: Global,
+    state: &State,
+    factor: &Factor,
+    barrier: &Items<i128>,
+    p: &Items<i128>,
+) -> Result<Angles, AllocError>
+    requires barrier { IsBarrier state.now barrier.now }
+    requires each_class { length p.now ≡ classes_of state.now }
+    requires room { HasRoomFor state.now (size_of p.now) }
+    ensures within { IfOk result (λ angles. EnclosesWithin state.now (size_of p.now) p.now angles) }
+    ensures column { IfOk result (λ angles. size_of p.now ≤ greatest_total_of state.now → EnclosesColumn state.now p.now angles) }
+
+    // Angles of the right side exist, and their spans hold them.
+    ensures holds { IfOk result (λ angles. HoldsAngles state.now barrier.now p.now angles) }
+{
+    let guess = factor.guess(alloc, state, p)?;
+    enclose_from(alloc, state, Solver::Own(factor), barrier, p, guess)
+}
+
+/// The same from a guess of the angles, which is corrected by guesses of the solver. Any guess within the bound on |w| may be
+/// given, with 0 at the slack's class and at classes that are not live.
+pub fn enclose_from(
+    alloc: Global,
+    state: &State,
+    solver: Solver<'_>,
+    barrier: &Items<i128>,
+    p: &Items<i128>,
+    guess: Items<i128>,
+) -> Result<Angles, AllocError>
+    requires barrier { IsBarrier state.now barrier.now }
+    requires each_class { length p.now ≡ classes_of state.now }
+    requires room { HasRoomFor state.now (size_of p.now) }
+    requires guess { IsGuess state.now (size_of p.now) guess }
+    ensures within { IfOk result (λ angles. EnclosesWithin state.now (size_of p.now) p.now angles) }
+    ensures column { IfOk result (λ angles. size_of p.now ≤ greatest_total_of state.now → EnclosesColumn state.now p.now angles) }
+
+    // Angles of the right side exist, and their spans hold them.
+    ensures holds { IfOk result (λ angles. HoldsAngles state.now barrier.now p.now angles) }
+{
     state.sound();
-    let w = swept(alloc, state, p)?;
-    Ok(with_kappa(state, p.as_slice(), w))
+    let approach = corrected(alloc, state, solver, p.as_slice(), guess)?;
+    if is_done(state, approach.left.as_slice()) {
+        Ok(with_kappa(approach))
+    } else {
+        swept_angles(alloc, state, p, &approach)
+    }
+}
+
+/// The same without sweeps: it is none where the corrections leave so much that sweeps would have to follow.
+pub fn try_enclose_from(
+    alloc: Global,
+    state: &State,
+    solver: Solver<'_>,
+    barrier: &Items<i128>,
+    p: &Items<i128>,
+    guess: Items<i128>,
+) -> Result<Option<Angles>, AllocError>
+    requires barrier { IsBarrier state.now barrier.now }
+    requires each_class { length p.now ≡ classes_of state.now }
+    requires room { HasRoomFor state.now (size_of p.now) }
+    requires guess { IsGuess state.now (size_of p.now) guess }
+    ensures within { IfOk result (λ found. IfSome found (λ angles. EnclosesWithin state.now (size_of p.now) p.now angles)) }
+    ensures column { IfOk result (λ found. IfSome found (λ angles. size_of p.now ≤ greatest_total_of state.now → EnclosesColumn state.now p.now angles)) }
+
+    // Angles of the right side exist, and their spans hold them.
+    ensures holds { IfOk result (λ found. IfSome found (λ angles. HoldsAngles state.now barrier.now p.now angles)) }
+{
+    state.sound();
+    let approach = corrected(alloc, state, solver, p.as_slice(), guess)?;
+    if is_done(state, approach.left.as_slice()) {
+        Ok(Some(with_kappa(approach)))
+    } else {
+        Ok(None)
+    }
 }

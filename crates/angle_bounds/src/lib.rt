@@ -4,10 +4,13 @@
 
 mod barriers;
 mod columns;
+mod corrections;
+mod remainders;
 mod spans;
+mod swept;
 
-pub use barriers::barrier;
-pub use columns::enclose;
+pub use barriers::{barrier, barrier_from, barrier_side, barrier_with, try_barrier_from};
+pub use columns::{enclose, enclose_from, enclose_with, try_enclose_from};
 pub use spans::angle_span;
 
 #[cfg(test)]

@@ -1,4 +1,4 @@
--- Words of private contracts: what a round of a sweep is given. The contract of `sweep_up` says what its callers owe.
+-- Words of private contracts, which nobody need believe: what a round of a sweep is given. The contract of `sweep_up` says what its callers owe.
 use Rattle.std.specs.Prelude.{◌≡◌, List, length, All, ℤ, pos, ◌≤ℤ◌}
 use Rattle.grid_state.specs.GridState.{GridState, classes_of}
 use Rattle.grid_laplacian.specs.Sizes.{size_of}

@@ -1,4 +1,4 @@
--- Words of private contracts: what keeps the partial sums of a residual within 128 bits. The contract of `residual_at` says
+-- Words of private contracts, which nobody need believe: what keeps the partial sums of a residual within 128 bits. The contract of `residual_at` says
 -- what its callers owe.
 use Rattle.std.specs.Prelude.{◌*◌, ◌^◌, ◌≤◌, List, length, All, ℤ, unsigned_abs}
 use Rattle.grid_state.specs.declared.types.Edge.{Edge}

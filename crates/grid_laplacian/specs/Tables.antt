@@ -1,3 +1,4 @@
+-- Words of proofs, which nobody need believe.
 -- Tables of weights between the places 0, 1, .., n - 1, such as the susceptances between the classes of a grid: their
 -- Laplacian, and what it is to solve it where some places are free and the others are held at 0.
 use Rattle.std.specs.Prelude.{◌≡◌, ℕ, ◌<◌, Bool, true, false, ℤ, pos, ◌-ℤ◌, ◌*ℤ◌}

@@ -9,7 +9,6 @@ mod sizes;
 
 pub use range::{range_ok, reach};
 pub use residual::{residual_at, residual_of};
-pub use sizes::is_free;
-
-#[cfg(test)]
-mod tests;
+pub use sizes::{
+    greatest_susceptance, is_free, least_susceptance, live_classes, total_susceptance,
+};

@@ -29,7 +29,7 @@ fn free_susceptance(state: &State, class: u32) -> u128
 }
 
 /// How many classes are live.
-pub(crate) fn live_classes(state: &State) -> u32
+pub fn live_classes(state: &State) -> u32
     ensures value { result ≡ live_count state.now }
     ensures few { live_count state.now ≤ 4096 }
 {
@@ -44,7 +44,7 @@ pub(crate) fn live_classes(state: &State) -> u32
 }
 
 /// The sum of the susceptances of the live classes but the slack's.
-pub(crate) fn total_susceptance(state: &State) -> u128
+pub fn total_susceptance(state: &State) -> u128
     ensures value { result ≡ total_susceptance_of state.now }
     ensures small { total_susceptance_of state.now ≤ 2 ^ 63 }
 {
@@ -57,7 +57,7 @@ pub(crate) fn total_susceptance(state: &State) -> u128
 }
 
 /// The greatest susceptance of a live class but the slack's.
-pub(crate) fn greatest_susceptance(state: &State) -> u128
+pub fn greatest_susceptance(state: &State) -> u128
     ensures { result ≡ greatest_susceptance_of state.now }
 {
     let mut greatest = 0;
@@ -84,7 +84,7 @@ fn least_in_row(row: &[Edge]) -> u64
 }
 
 /// The least susceptance of the carrying branches between two classes; where there is none, 10^11.
-pub(crate) fn least_susceptance(state: &State) -> u64
+pub fn least_susceptance(state: &State) -> u64
     ensures value { result ≡ least_susceptance_of state.now }
     ensures some { 0 < least_susceptance_of state.now }
     ensures small { least_susceptance_of state.now ≤ 100000000000 }

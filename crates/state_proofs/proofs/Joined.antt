@@ -8,7 +8,7 @@ use Rattle.fb_types.specs.declared.keys.Column.{Column}
 use Rattle.fb_types.specs.declared.rows.Angles.{Angles}
 use Rattle.grid_state.specs.GridState.{GridState}
 use Rattle.grid_laplacian.specs.Enclosures.{EnclosesColumn}
-use Rattle.exact_flows.specs.Balances.{block_side}
+use Rattle.security.specs.Balances.{block_side}
 use Rattle.state_proofs.specs.Enclosed.{AreEnclosed, AddsEnclosed}
 use Rattle.state_proofs.specs.StateProofs.{all_blocks}
 

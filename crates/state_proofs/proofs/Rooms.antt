@@ -7,7 +7,7 @@ use Rattle.grid_state.specs.GridState.{GridState, classes_of}
 use Rattle.grid_laplacian.specs.Sizes.{total_susceptance_of}
 use Rattle.grid_laplacian.specs.Ranges.{HasRoomFor, greater_total_of}
 use Rattle.grid_laplacian.proofs.SizeCondition.{room_for_less}
-use Rattle.exact_flows.specs.Balances.{reference_side, block_side, base_balance, block_weights}
+use Rattle.security.specs.Balances.{reference_side, block_side, base_balance, block_weights}
 use Rattle.exact_flows.proofs.Listed.{length_classes}
 
 pub in_total : (s : GridState) (total : ℕ) → total ≤ 2 * 10 ^ 25 → total ≤ greater_total_of s (2 * 10 ^ 25)

@@ -6,7 +6,7 @@ use Rattle.fb_types.specs.declared.keys.Block.{Block}
 use Rattle.fb_types.specs.declared.rows.Angles.{Angles}
 use Rattle.grid_state.specs.GridState.{GridState}
 use Rattle.grid_laplacian.specs.Enclosures.{EnclosesColumn}
-use Rattle.exact_flows.specs.Balances.{block_side}
+use Rattle.security.specs.Balances.{block_side}
 
 -- enclosed angles of each block
 abbrev pub AreEnclosed : GridState → List Block → List Angles → Type 0

@@ -6,7 +6,7 @@ use Rattle.fb_types.specs.declared.keys.Block.{Block}
 use Rattle.fb_types.specs.declared.keys.Column.{Column}
 use Rattle.grid_state.specs.GridState.{GridState}
 use Rattle.grid_laplacian.specs.Enclosures.{IsBarrier, EnclosesColumn}
-use Rattle.exact_flows.specs.Balances.{reference_side, block_side}
+use Rattle.security.specs.Balances.{reference_side, block_side}
 use Rattle.state_proofs.specs.declared.StateProof.{StateProof}
 
 -- the blocks of all zones: zone by zone, and within a zone in the order of its key

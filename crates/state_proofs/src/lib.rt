@@ -1,19 +1,22 @@
 //! What is proved of a grid state: a barrier, and enclosed angles of the reference and of each block of the zones' shift keys.
 #![tactic(auto)]
 
-ghost use Rattle.std.specs.Prelude.{◌*◌, ◌^◌, ◌<◌, length, All, IfOk, OnOk};
+ghost use Rattle.std.specs.Prelude.{◌*◌, ◌^◌, ◌<◌, length, All, IfOk};
 ghost use Rattle.grid_state.specs.Split.{AreKeysOf};
 ghost use Rattle.grid_laplacian.specs.Ranges.{IsOfGrid, IsInRange, HasRoomFor};
-ghost use Rattle.grid_laplacian.specs.Enclosures.{IsBarrier, EnclosesColumn};
-ghost use Rattle.exact_flows.specs.Balances.{reference_side, block_side};
-ghost use Rattle.zonal_factors.specs.FactorSpans.{IsBlock, IsKey};
-ghost use Rattle.state_proofs.specs.Enclosed.{AreEnclosed, AddsEnclosed};
-ghost use Rattle.state_proofs.specs.StateProofs.{all_blocks, IsStateProof};
+ghost use Rattle.zonal_factors.specs.FactorSpans.{IsKey};
+ghost use Rattle.state_proofs.specs.StateProofs.{IsStateProof};
 
-use angle_bounds::{barrier, enclose};
-use fb_types::{Angles, Block, Column, Grid, Items};
+mod changes;
+mod columns;
+mod groundwork;
+
+use changes::{Change, change_of};
+use columns::{Means, barrier_by, enclosed_keys, enclosed_reference};
+use fb_types::{Angles, Column, Grid, Items};
 use grid_state::State;
-use right_sides::{block_side, reference_side};
+pub use groundwork::Groundwork;
+use sparse_factor::{Outage, Sizes, Solver};
 use std::alloc::{AllocError, Global};
 
 /// A barrier of a grid state, the enclosed angles of its reference, and those of each block of the shift keys. Each list of
@@ -29,84 +32,37 @@ pub struct StateProof {
     pub blocks: Items<Angles>,
 }
 
-/// Encloses the angles of the reference.
-fn enclosed_reference(
+/// The proof of a state by these means.
+fn proof_by(
     alloc: Global,
+    means: Means<'_>,
     state: &State,
     grid: &Grid,
-    barrier: &Items<i128>,
-) -> Result<Angles, AllocError>
+    columns: &Items<Column>,
+) -> Result<StateProof, AllocError>
     requires of_grid { IsOfGrid grid.now state.now }
     requires range { IsInRange grid.now state.now }
-    requires barrier { IsBarrier state.now barrier.now }
-    ensures { IfOk result (λ angles. EnclosesColumn state.now (reference_side state.now grid.now) angles) }
-{
-    let p = reference_side(alloc, state, grid)?;
-    enclose(alloc, state, barrier, &p)
-}
-
-/// Encloses the angles of the weights of a block.
-fn enclosed_block(
-    alloc: Global,
-    state: &State,
-    barrier: &Items<i128>,
-    block: &Block,
-) -> Result<Angles, AllocError>
-    requires room { HasRoomFor state.now (2 * 10 ^ 25) }
-    requires barrier { IsBarrier state.now barrier.now }
-    requires block { IsBlock block.now }
-    requires nodes { All (λ w. w.node < length state.now.class_of) block.now.weights }
-    ensures { IfOk result (λ angles. EnclosesColumn state.now (block_side state.now block.now) angles) }
-{
-    let p = block_side(alloc, state, block)?;
-    enclose(alloc, state, barrier, &p)
-}
-
-/// Appends the enclosed angles of each block.
-fn add_blocks(
-    alloc: Global,
-    state: &State,
-    barrier: &Items<i128>,
-    blocks: &[Block],
-    enclosed: &mut Items<Angles>,
-) -> Result<(), AllocError>
-    requires room { HasRoomFor state.now (2 * 10 ^ 25) }
-    requires barrier { IsBarrier state.now barrier.now }
-    requires blocks { All IsBlock blocks.now }
-    requires nodes { All (λ block. All (λ w. w.node < length state.now.class_of) block.weights) blocks.now }
-    ensures { OnOk result (AddsEnclosed state.now blocks.now enclosed.old enclosed.new) }
-{
-    for block in blocks {
-        let angles = enclosed_block(alloc, state, barrier, block)?;
-        enclosed.add(angles)?;
-    }
-    Ok(())
-}
-
-/// Encloses the angles of each block of each key.
-fn enclosed_keys(
-    alloc: Global,
-    state: &State,
-    barrier: &Items<i128>,
-    columns: &[Column],
-) -> Result<Items<Angles>, AllocError>
-    requires room { HasRoomFor state.now (2 * 10 ^ 25) }
-    requires barrier { IsBarrier state.now barrier.now }
     requires keys { All IsKey columns.now }
-    requires nodes { AreKeysOf (length state.now.class_of) columns.now }
-    ensures { IfOk result (AreEnclosed state.now (all_blocks columns.now)) }
+    requires nodes { AreKeysOf (length grid.now.nodes) columns.now }
+    ensures proof { IfOk result (IsStateProof state.now grid.now columns.now) }
 {
-    let mut enclosed = Items::new(alloc);
-    for column in columns {
-        add_blocks(
-            alloc,
-            state,
-            barrier,
-            column.blocks.as_slice(),
-            &mut enclosed,
-        )?;
-    }
-    Ok(enclosed)
+    let mut means = means;
+    let sizes = Sizes::new(state);
+    let barrier = barrier_by(alloc, state, &sizes, &mut means)?;
+    let reference = enclosed_reference(alloc, state, &sizes, grid, &mut means, &barrier)?;
+    let blocks = enclosed_keys(
+        alloc,
+        state,
+        &sizes,
+        &mut means,
+        &barrier,
+        columns.as_slice(),
+    )?;
+    Ok(StateProof {
+        barrier,
+        reference,
+        blocks,
+    })
 }
 
 /// Proves of a state what is needed to enclose each flow and each factor in it: a barrier, and enclosed angles of the reference
@@ -127,15 +83,40 @@ pub fn prove_state(
     requires nodes { AreKeysOf (length grid.now.nodes) columns.now }
     ensures proof { IfOk result (IsStateProof state.now grid.now columns.now) }
 {
-    let barrier = barrier(alloc, state)?;
-    let reference = enclosed_reference(alloc, state, grid, &barrier)?;
-    let blocks = enclosed_keys(alloc, state, &barrier, columns.as_slice())?;
-    Ok(StateProof {
-        barrier,
-        reference,
-        blocks,
-    })
+    let own = Groundwork::new(alloc, state, grid, columns)?;
+    let means = Means::new(Solver::Own(&own.factor), &own.solutions);
+    proof_by(alloc, means, state, grid, columns)
 }
 
-#[cfg(test)]
-mod tests;
+/// The same from the groundwork of a base state of the grid, the base state itself being one of those that may be proved. A
+/// state that lacks branches between two classes alone is guessed from the solutions of the base state, and any other by a
+/// factor of its own. The groundwork is only read, so states may be proved side by side.
+pub fn prove_after(
+    alloc: Global,
+    groundwork: &Groundwork<'_>,
+    state: &State,
+    grid: &Grid,
+    columns: &Items<Column>,
+) -> Result<StateProof, AllocError>
+    requires of_grid { IsOfGrid grid.now state.now }
+    requires range { IsInRange grid.now state.now }
+    requires keys { All IsKey columns.now }
+    requires nodes { AreKeysOf (length grid.now.nodes) columns.now }
+    ensures proof { IfOk result (IsStateProof state.now grid.now columns.now) }
+{
+    let factor = &groundwork.factor;
+    let solutions = &groundwork.solutions;
+    match change_of(groundwork.base, state) {
+        Change::Nothing => {
+            let means = Means::new(Solver::Own(factor), solutions);
+            proof_by(alloc, means, state, grid, columns)
+        }
+        Change::Between { from, to, b } => {
+            let b = u64::try_from(b).unwrap_or(0);
+            let outage = Outage::new(alloc, factor, groundwork.base, from, to, b)?;
+            let means = Means::new(Solver::After(factor, &outage), solutions);
+            proof_by(alloc, means, state, grid, columns)
+        }
+        Change::At { class: _, b: _ } | Change::More => prove_state(alloc, state, grid, columns),
+    }
+}

@@ -1,31 +1,31 @@
 use Rattle.std.proofs.Common.{◌<◌, List, length, get_or, sym, ap, subst, ◌∙◌}
 use Rattle.grid_state.specs.GridState.{GridState}
 use Rattle.grid_laplacian.specs.Ranges.{IsOfGrid, IsInRange}
-use Rattle.fb_certificate.specs.WholeLaws.{are_keys, keys_at_nodes, state_of_grid, state_in_range}
+use Rattle.fb_certificate.proofs.WholeLaws.{are_keys, keys_at_nodes, state_of_grid, state_in_range}
 use Rattle.domain_maker.proofs.RowLaws.{proof_added}
 use Rattle.domain_maker.proofs.states.prove_states.Goals as goal
 
-pub prove_state-requires-clause-of_grid : goal.prove_state-requires-clause-of_grid
-prove_state-requires-clause-of_grid c =
+pub prove_after-requires-clause-of_grid : goal.prove_after-requires-clause-of_grid
+prove_after-requires-clause-of_grid c =
     let inputs = c.args.inputs.now in
     let i = c.loop-state.state-index in
     let s = c.state-item.result in
     subst (λ (t : GridState). IsOfGrid inputs.grid t) (sym (c.state-item.is ∙ ap (λ (ss : List GridState). get_or ss i s) c.as_slice-state-items.ensures.items))
     (state_of_grid inputs c.requires i s (subst (λ (ss : List GridState). i < length ss) c.as_slice-state-items.ensures.items c.loop-state-test.true))
 
-pub prove_state-requires-clause-range : goal.prove_state-requires-clause-range
-prove_state-requires-clause-range c =
+pub prove_after-requires-clause-range : goal.prove_after-requires-clause-range
+prove_after-requires-clause-range c =
     let inputs = c.args.inputs.now in
     let i = c.loop-state.state-index in
     let s = c.state-item.result in
     subst (λ (t : GridState). IsInRange inputs.grid t) (sym (c.state-item.is ∙ ap (λ (ss : List GridState). get_or ss i s) c.as_slice-state-items.ensures.items))
     (state_in_range inputs c.requires i s (subst (λ (ss : List GridState). i < length ss) c.as_slice-state-items.ensures.items c.loop-state-test.true))
 
-pub prove_state-requires-clause-keys : goal.prove_state-requires-clause-keys
-prove_state-requires-clause-keys c = are_keys c.args.inputs.now c.requires
+pub prove_after-requires-clause-keys : goal.prove_after-requires-clause-keys
+prove_after-requires-clause-keys c = are_keys c.args.inputs.now c.requires
 
-pub prove_state-requires-clause-nodes : goal.prove_state-requires-clause-nodes
-prove_state-requires-clause-nodes c = keys_at_nodes c.args.inputs.now c.requires
+pub prove_after-requires-clause-nodes : goal.prove_after-requires-clause-nodes
+prove_after-requires-clause-nodes c = keys_at_nodes c.args.inputs.now c.requires
 
 pub loop-state-preserved : goal.loop-state-preserved
 loop-state-preserved c =
