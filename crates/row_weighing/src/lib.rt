@@ -91,7 +91,7 @@ pub fn covers(target: &Half, rows: &[Half], by: &Multipliers, bounds: &[Bounds])
 }
 
 /// The sum of multiplier times right side over the rows that are cited.
-fn weighted_side(rows: &[Half], mults: &[Mult]) -> i128
+pub fn weighted_side(rows: &[Half], mults: &[Mult]) -> i128
     requires sides { All (λ row. IsWithin (2 * 10 ^ 13) row.r) rows.now }
     requires weights { AreWeights rows.now mults.now }
     ensures exact { result ≡ combined_side rows.now mults.now }
@@ -105,7 +105,7 @@ fn weighted_side(rows: &[Half], mults: &[Mult]) -> i128
 }
 
 /// The sum of multiplier times coefficient over the rows that are cited.
-fn weighted_coefficient(rows: &[Half], mults: &[Mult], zone: usize, zones: usize) -> i128
+pub fn weighted_coefficient(rows: &[Half], mults: &[Mult], zone: usize, zones: usize) -> i128
     requires over { All (λ row. IsHalfOver zones row) rows.now }
     requires zone_in { zone < zones }
     requires weights { AreWeights rows.now mults.now }
@@ -151,7 +151,7 @@ fn rest_at(target: &Half, rows: &[Half], by: &Multipliers, zone: usize, zones: u
 }
 
 /// The most that a coefficient can give within the bounds.
-fn greatest_at(b: &Bounds, rest: i128) -> i128
+pub fn greatest_at(b: &Bounds, rest: i128) -> i128
     requires low { IsWithin (10 ^ 11) b.now.low }
     requires high { IsWithin (10 ^ 11) b.now.high }
     requires rest_small { IsWithin (3 * 10 ^ 24) rest }

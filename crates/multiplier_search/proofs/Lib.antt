@@ -1,0 +1,5 @@
+pub mod CornerLaws
+pub mod HoldsPoint
+pub mod Light
+pub mod Trying
+pub mod Turning

@@ -1,0 +1,9 @@
+pub mod Boxes
+pub mod Chains
+pub mod Changing
+pub mod Fated
+pub mod Keeping
+pub mod Screening
+pub mod Slacks
+pub mod Thinner
+pub mod Witnessing
