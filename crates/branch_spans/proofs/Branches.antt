@@ -17,7 +17,7 @@ use Rattle.grid_laplacian.specs.Sizes.{greatest_susceptance_of}
 use Rattle.grid_laplacian.specs.Ranges.{HasCrossing, IsOfGrid}
 use Rattle.grid_laplacian.proofs.LawProofs.{part_of_weight}
 use Rattle.grid_laplacian.proofs.Crossings.{susceptance-le-greatest}
-use Rattle.exact_flows.specs.Flows.{NumberedBranch}
+use Rattle.security.specs.Flows.{NumberedBranch}
 use Rattle.exact_flows.proofs.Listed.{class_below}
 use Rattle.branch_spans.specs.FlowSpans.{IsBranchOf}
 

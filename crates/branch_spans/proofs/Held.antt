@@ -15,8 +15,8 @@ use Rattle.grid_state.specs.GridState.{GridState, class_at, carries_at, IsSound}
 use Rattle.grid_laplacian.specs.Ranges.{IsOfGrid}
 use Rattle.grid_laplacian.specs.Enclosures.{IsBarrier}
 use Rattle.grid_laplacian.proofs.Enclosure.{angles_lie}
-use Rattle.exact_flows.specs.Flows.{NumberedBranch}
-use Rattle.exact_flows.specs.Quotients.{divisor_of, divided}
+use Rattle.security.specs.Flows.{NumberedBranch}
+use Rattle.security.specs.Quotients.{divisor_of, divided}
 use Rattle.exact_flows.proofs.Listed.{class_below}
 use Rattle.branch_spans.specs.FlowSpans.{difference_of, doubt_of, flow_span_of, IsBranchOf, HoldsFlow}
 use Rattle.branch_spans.proofs.Branches.{in_range}

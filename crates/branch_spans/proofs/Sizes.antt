@@ -14,7 +14,7 @@ use Rattle.grid_laplacian.specs.Ranges.{HasCrossing, HasRoomFor, greater_total_o
 use Rattle.grid_laplacian.specs.Enclosures.{IsBarrier, EnclosesColumn}
 use Rattle.grid_laplacian.proofs.Crossings.{free_crosses, crossing_positive}
 use Rattle.grid_laplacian.proofs.SizeCondition.{enclosed_small}
-use Rattle.exact_flows.specs.Flows.{NumberedBranch}
+use Rattle.security.specs.Flows.{NumberedBranch}
 use Rattle.exact_flows.proofs.Listed.{class_below}
 use Rattle.branch_spans.specs.FlowSpans.{difference_of, doubt_of, flow_span_of, IsColumn, IsBranchOf}
 use Rattle.branch_spans.proofs.Reach.{reach_small}

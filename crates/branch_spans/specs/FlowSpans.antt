@@ -1,5 +1,6 @@
--- The span of the flow that the angles of a column make on a branch, without its phase shift, in the unit of the column's right
--- side (10^-13 W), from a barrier and the column's enclosed angles.
+-- The span of the flow of a branch. Nobody need read this to know what a domain promises.
+-- It is the flow that the angles of a column make on the branch, without its phase shift, in the unit of the column's right side
+-- (10^-13 W), from a barrier and the column's enclosed angles.
 use Rattle.std.specs.Prelude.{◌≡◌, ℕ, ℤ, pos, ◌+ℤ◌, ◌-ℤ◌, ◌*ℤ◌, List, slice_get, Some}
 use Rattle.whole_laws.specs.Sums.{at}
 use Rattle.fractions.specs.Spans.{LiesIn}
@@ -8,7 +9,7 @@ use Rattle.fb_types.specs.declared.grid.Grid.{Grid}
 use Rattle.fb_types.specs.declared.rows.Angles.{Angles}
 use Rattle.grid_state.specs.GridState.{GridState, class_at}
 use Rattle.grid_laplacian.specs.Enclosures.{EnclosesColumn}
-use Rattle.exact_flows.specs.Flows.{ExactAngles, AreAnglesOf, NumberedBranch, flow_of}
+use Rattle.security.specs.Flows.{ExactAngles, AreAnglesOf, NumberedBranch, flow_of}
 
 -- d = w_i − w_j and e = kappa·(v_i + v_j), for classes i and j
 abbrev pub difference_of : Angles → ℕ → ℕ → ℤ

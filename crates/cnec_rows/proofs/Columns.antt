@@ -7,7 +7,7 @@ use Rattle.fb_types.specs.declared.keys.Block.{Block}
 use Rattle.fb_types.specs.declared.keys.Column.{Column}
 use Rattle.fb_types.specs.declared.rows.Angles.{Angles}
 use Rattle.grid_state.specs.GridState.{GridState}
-use Rattle.exact_flows.specs.Flows.{NumberedBranch}
+use Rattle.security.specs.Flows.{NumberedBranch}
 use Rattle.zonal_factors.specs.FactorSpans.{factor_span_of, angles_from}
 use Rattle.state_proofs.specs.StateProofs.{all_blocks}
 use Rattle.state_proofs.specs.declared.StateProof.{StateProof}

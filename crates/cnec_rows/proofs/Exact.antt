@@ -7,13 +7,13 @@ use Rattle.fractions.specs.Spans.{LiesAt, EachLiesAt}
 use Rattle.fb_types.specs.declared.grid.Grid.{Grid}
 use Rattle.fb_types.specs.declared.keys.Column.{Column}
 use Rattle.grid_state.specs.GridState.{GridState}
-use Rattle.row_numbers.specs.Exchanges.{ZoneOfRow}
-use Rattle.exact_flows.specs.Flows.{AreAnglesOfKey}
+use Rattle.security.specs.Exchanges.{ZoneOfRow}
+use Rattle.security.specs.Flows.{AreAnglesOfKey}
 use Rattle.cnec_selection.specs.Classes.{IsRight}
 use Rattle.cnec_selection.specs.declared.Class.{Class}
 use Rattle.cnec_selection.specs.declared.Class.TheVariants.{Below, Doubtful, Certain}
 use Rattle.domain_rows.specs.Brackets.{Brackets}
-use Rattle.row_security.specs.Rows.{Row, KeyedZone, SolvedZone, Choice, IsChoice, row_factor_of, row_reference_of, seen_by, f0core_of, fuaf_of, core_of, core_factors_of, spread_of_row}
+use Rattle.security.specs.Rows.{Row, KeyedZone, SolvedZone, Choice, IsChoice, row_factor_of, row_reference_of, seen_by, f0core_of, fuaf_of, core_of, core_factors_of, spread_of_row}
 use Rattle.row_security.specs.Laws.{HeldRowsAreBracketed}
 use Rattle.reference_flows.specs.WithoutExchanges.{trillion, HaveNumbers, AreOfCore}
 use Rattle.cnec_rows.specs.declared.types.RowZones.{RowZones}

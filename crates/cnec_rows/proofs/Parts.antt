@@ -1,8 +1,8 @@
 -- The numbers of a row, part by part, as the code puts them together.
 use Rattle.std.proofs.Common.{◌≡◌, ℕ, ℤ, List, sym, ap, ap₂, subst, ◌∙◌}
-use Rattle.row_numbers.specs.Margins.{ElementNumbers}
+use Rattle.security.specs.Margins.{ElementNumbers, numbers_of}
 use Rattle.fb_types.specs.declared.rows.Bounds.{Bounds}
-use Rattle.ram_formulas.specs.MarginSpans.{numbers_of, margin_at, HoldsMargin}
+use Rattle.ram_formulas.specs.MarginSpans.{margin_at, HoldsMargin}
 use Rattle.domain_rows.specs.Brackets.{Brackets}
 use Rattle.cnec_selection.specs.SpreadSpans.{spread_low, spread_high}
 use Rattle.cnec_selection.specs.declared.Class.{Class}

@@ -9,7 +9,8 @@ use Rattle.fractions.specs.Spans.{LiesAt}
 use Rattle.fractions.specs.SpanLaws.{Lies-Same, Lies-negated}
 use Rattle.fb_span.specs.Ends.{EndsWithin}
 use Rattle.reference_flows.specs.WithoutExchanges.{trillion}
-use Rattle.cnec_rows.specs.RowNumbers.{direction_of, directed}
+use Rattle.security.specs.Rows.{direction_of}
+use Rattle.cnec_rows.specs.RowNumbers.{directed}
 
 along : (p : Fraction) → Same (times trillion p) (times trillion (times (pos 1) p))
 along p = record { same = step trillion p.num p.den }

@@ -1,23 +1,23 @@
 -- The numbers of a row from the proof of its grid state: spans of factors in 10^-12, of flows and margins in picowatts, and the
 -- row of the domain; and what they hold. (Core day-ahead capacity calculation methodology, ACER decision 02-2019, annex I.)
-use Rattle.std.specs.Prelude.{◌≡◌, ℕ, ◌+◌, ◌<◌, ◌≤◌, ℤ, pos, negsuc, neg_ℤ, ◌≤ℤ◌, Bool, true, false, List, [], ◌∷◌, length, map, All}
+use Rattle.std.specs.Prelude.{◌≡◌, ℕ, ◌+◌, ◌<◌, ◌≤◌, ℤ, pos, neg_ℤ, ◌≤ℤ◌, Bool, true, false, List, [], ◌∷◌, length, map, All}
 use Rattle.std.specs.List.{filter, zip}
 use Rattle.fractions.specs.Spans.{LiesAt}
 use Rattle.fb_types.specs.Domain.{AreBounds}
 use Rattle.fb_types.specs.declared.grid.Grid.{Grid}
 use Rattle.fb_types.specs.declared.keys.Column.{Column}
 use Rattle.grid_state.specs.GridState.{GridState}
-use Rattle.row_numbers.specs.Exchanges.{without_any_of}
-use Rattle.row_numbers.specs.Margins.{ElementNumbers}
-use Rattle.row_numbers.specs.Spreads.{IsSelected}
-use Rattle.exact_flows.specs.Flows.{NumberedBranch}
-use Rattle.ram_formulas.specs.MarginSpans.{numbers_of, margin_at}
+use Rattle.security.specs.Exchanges.{without_any_of}
+use Rattle.security.specs.Margins.{ElementNumbers, numbers_of}
+use Rattle.security.specs.Flows.{NumberedBranch}
+use Rattle.ram_formulas.specs.MarginSpans.{margin_at}
 use Rattle.cnec_selection.specs.Classes.{class_of}
 use Rattle.cnec_selection.specs.SpreadSpans.{spread_low, spread_high}
 use Rattle.cnec_selection.specs.declared.Class.{Class}
 use Rattle.cnec_selection.specs.declared.Class.TheVariants.{Below, Doubtful, Certain}
 use Rattle.domain_rows.specs.Brackets.{coefficient_of, inner_side, outer_side}
-use Rattle.row_security.specs.Rows.{Row, KeyedZone, Choice, IsChoice, seen_by, row_reference_of, f0core_of, fuaf_of, ram_of_row, spread_of_row, IsBracketed}
+use Rattle.security.specs.Rows.{Row, KeyedZone, Choice, IsChoice, direction_of, seen_by, row_reference_of, f0core_of, fuaf_of, ram_of_row, spread_of_row, IsBelow, IsAlwaysSelected}
+use Rattle.security.specs.Capacity.{IsBracketed}
 use Rattle.zonal_factors.specs.FactorSpans.{factor_span_of}
 use Rattle.reference_flows.specs.ReferenceSpans.{reference_span_of}
 use Rattle.reference_flows.specs.WithoutExchanges.{trillion, exchanges_span, counted_positions, less_exchanges, sizes_of}
@@ -28,11 +28,6 @@ use Rattle.cnec_rows.specs.declared.types.RowSpans.{RowSpans}
 use Rattle.cnec_rows.specs.declared.types.RowProof.{RowProof}
 
 -- ---- The row
-
--- 1 along the branch, −1 against it
-abbrev pub direction_of : Bool → ℤ
-direction_of false = pos 1
-direction_of true = negsuc 0
 
 -- what is stated of the row's element
 abbrev pub stated_of : RowTerms → ElementNumbers
@@ -131,13 +126,6 @@ pub record HoldNumbers (s : GridState) (grid : Grid) (zones : List KeyedZone) (r
   pub fuaf : (choice : Choice) → IsChoice s grid zones choice → LiesAt trillion spans.fuaf (fuaf_of s row choice)
   pub ram : (choice : Choice) → IsChoice s grid zones choice → LiesAt trillion spans.ram (ram_of_row s row choice)
   pub spread : (choice : Choice) → IsChoice s grid zones choice → LiesAt trillion spans.spread (spread_of_row s row choice)
-
--- a row is below the threshold, or selected, whatever exact angles are chosen
-abbrev pub IsBelow : GridState → Grid → List KeyedZone → Row → ℕ → Type 0
-IsBelow s grid zones row threshold = (choice : Choice) → IsChoice s grid zones choice → ¬ (IsSelected (pos threshold) (spread_of_row s row choice))
-
-abbrev pub IsAlwaysSelected : GridState → Grid → List KeyedZone → Row → ℕ → Type 0
-IsAlwaysSelected s grid zones row threshold = (choice : Choice) → IsChoice s grid zones choice → IsSelected (pos threshold) (spread_of_row s row choice)
 
 -- what a class says
 abbrev pub IsOfClass : GridState → Grid → List KeyedZone → Row → ℕ → Class → Type 0

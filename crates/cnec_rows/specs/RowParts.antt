@@ -1,4 +1,4 @@
--- What the parts hold that a row is put together from. The calls that make the parts speak of these words; what a row holds
+-- Words of private contracts: what the parts hold that a row is put together from. Nobody need believe them: what a row holds
 -- (RowNumbers) is told by the exact numbers alone.
 use Rattle.std.specs.Prelude.{ℤ, List}
 use Rattle.std.specs.List.{AllZip}
@@ -7,9 +7,9 @@ use Rattle.fractions.specs.Spans.{LiesAt}
 use Rattle.fb_types.specs.declared.grid.Grid.{Grid}
 use Rattle.fb_types.specs.declared.keys.Column.{Column}
 use Rattle.grid_state.specs.GridState.{GridState}
-use Rattle.row_numbers.specs.Margins.{ElementNumbers}
-use Rattle.exact_flows.specs.Balances.{base_balance}
-use Rattle.exact_flows.specs.Flows.{ExactAngles, AreAnglesOf, NumberedBranch, reference_flow_of, factor_of, AreAnglesOfKey}
+use Rattle.security.specs.Margins.{ElementNumbers}
+use Rattle.security.specs.Balances.{base_balance}
+use Rattle.security.specs.Flows.{ExactAngles, AreAnglesOf, NumberedBranch, reference_flow_of, factor_of, AreAnglesOfKey}
 use Rattle.ram_formulas.specs.MarginSpans.{HoldsMargin}
 use Rattle.cnec_selection.specs.SpreadSpans.{HoldsSpread}
 use Rattle.reference_flows.specs.WithoutExchanges.{trillion, HoldsWithoutCore, HoldsWithoutAny, HoldsExternal}

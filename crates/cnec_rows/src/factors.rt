@@ -5,11 +5,12 @@ ghost use Rattle.std.specs.List.{filter};
 ghost use Rattle.fb_span.specs.Ends.{EndsWithin};
 ghost use Rattle.grid_laplacian.specs.Ranges.{IsOfGrid, IsInRange};
 ghost use Rattle.grid_laplacian.specs.Enclosures.{IsBarrier, EnclosesColumn};
-ghost use Rattle.exact_flows.specs.Balances.{reference_side};
+ghost use Rattle.security.specs.Balances.{reference_side};
 ghost use Rattle.branch_spans.specs.FlowSpans.{ForBranch};
 ghost use Rattle.zonal_factors.specs.FactorSpans.{IsKey};
 ghost use Rattle.state_proofs.specs.StateProofs.{IsStateProof};
-ghost use Rattle.cnec_rows.specs.RowNumbers.{direction_of, directed, fref_span, factor_spans, of_core};
+ghost use Rattle.security.specs.Rows.{direction_of};
+ghost use Rattle.cnec_rows.specs.RowNumbers.{directed, fref_span, factor_spans, of_core};
 ghost use Rattle.cnec_rows.specs.RowParts.{HoldsAlong, HoldFactors};
 
 use fb_span::Span;

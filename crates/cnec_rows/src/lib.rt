@@ -3,8 +3,6 @@
 
 mod factors;
 mod row;
-#[cfg(test)]
-mod tests;
 mod types;
 
 pub use row::row_numbers;

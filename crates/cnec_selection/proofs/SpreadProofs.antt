@@ -13,8 +13,8 @@ use Rattle.fractions.specs.GreatestLaws.{Lies-greatest, Lies-least}
 use Rattle.fractions.specs.Spans.{Lies, LiesAt, EachLiesAt, low_end, high_end}
 use Rattle.fractions.specs.SpanLaws.{Lies-Same, Lies_wider, Lies-minus, Lies-meet}
 use Rattle.fb_span.specs.Ends.{EndsWithin}
-use Rattle.row_numbers.specs.Spreads.{spread_of, IsSelected}
-use Rattle.row_numbers.specs.SpreadLaws.{spread_not_negative, times-threshold}
+use Rattle.security.specs.Spreads.{spread_of, IsSelected}
+use Rattle.security.proofs.SpreadLaws.{spread_not_negative, times-threshold}
 use Rattle.cnec_selection.specs.SpreadSpans.{trillion, greatest_whole, least_whole, spread_low, spread_high, HoldsSpread}
 use Rattle.cnec_selection.specs.Classes.{level_of}
 

@@ -1,8 +1,9 @@
--- Which class a row has by the span of its spread, in 10^-12, and a threshold in thousandths.
+-- Which class a row has by a span. Nobody need read this to know what a domain promises.
+-- The span is that of its spread, in 10^-12, and the threshold is in thousandths.
 use Rattle.std.specs.Prelude.{ℕ, ℤ, pos, ◌*ℤ◌, int_lt, int_le, if◌then◌else◌}
 use Rattle.fractions.specs.Fractions.{Fraction}
 use Rattle.fractions.specs.Spans.{LiesAt}
-use Rattle.row_numbers.specs.Spreads.{IsSelected}
+use Rattle.security.specs.Spreads.{IsSelected}
 use Rattle.cnec_selection.specs.SpreadSpans.{trillion}
 use Rattle.cnec_selection.specs.declared.Class.{Class}
 use Rattle.cnec_selection.specs.declared.Class.TheVariants.{Below, Doubtful, Certain}

@@ -1,10 +1,10 @@
--- The span of the spread of a row, in 10^-12.
+-- The span of the spread of a row, in 10^-12. Nobody need read this to know what a domain promises.
 use Rattle.std.specs.Prelude.{ℤ, pos, ◌-ℤ◌, List, [], ◌∷◌, map}
 use Rattle.std.specs.Int.{int_max, int_min}
 use Rattle.std.specs.List.{fold}
 use Rattle.fractions.specs.Fractions.{Fraction}
 use Rattle.fractions.specs.Spans.{LiesAt, EachLiesAt, low_end, high_end}
-use Rattle.row_numbers.specs.Spreads.{spread_of}
+use Rattle.security.specs.Spreads.{spread_of}
 
 -- factors and spreads are counted in 10^-12
 abbrev pub trillion : ℤ

@@ -1,7 +1,7 @@
 //! Which rows are selected: the span of a row's zone-to-zone spread, and its class.
 #![tactic(auto)]
 
-ghost use Rattle.std.specs.Prelude.{◌≡◌, ◌<◌, ℤ, pos, ◌-ℤ◌, ◌≤ℤ◌, length, map, IfOk};
+ghost use Rattle.std.specs.Prelude.{◌≡◌, ◌<◌, ℤ, pos, ◌-ℤ◌, ◌≤ℤ◌, length, map};
 ghost use Rattle.std.specs.List.{All};
 ghost use Rattle.whole_laws.specs.Sums.{IsWithin};
 ghost use Rattle.fb_span.specs.Ends.{EndsWithin};
@@ -92,66 +92,5 @@ pub fn classify(spread: Span<i128>, threshold: u16) -> Class
         Class::Certain
     } else {
         Class::Doubtful
-    }
-}
-
-#[cfg(test)]
-mod tests {
-    use super::*;
-    use std::alloc::{AllocError, Global};
-
-    /// The list of three factors.
-    fn three(
-        alloc: Global,
-        first: Span<i128>,
-        second: Span<i128>,
-        third: Span<i128>,
-    ) -> Result<Items<Span<i128>>, AllocError>
-        requires first_in { EndsWithin 1_000_000_000_000 first }
-        requires second_in { EndsWithin 1_000_000_000_000 second }
-        requires third_in { EndsWithin 1_000_000_000_000 third }
-        ensures some { IfOk result (λ items. 0 < length items) }
-        ensures factors_in { IfOk result (λ items. All (EndsWithin 1_000_000_000_000) items) }
-    {
-        let mut factors = Items::new(alloc);
-        factors.add(first)?;
-        factors.add(second)?;
-        factors.add(third)?;
-        Ok(factors)
-    }
-
-    #[test]
-    fn spreads_and_classes(rt: HostRuntime) -> Result<(), AllocError> {
-        let zero = Span::exactly(0);
-        let two_thirds = Span::between(-666_666_666_667, -666_666_666_666);
-        let third = Span::between(-333_333_333_334, -333_333_333_333);
-        let spread = zone_to_zone(&three(rt.alloc(), third, zero, two_thirds)?);
-        assert_eq!(rt;
-            (spread.low(), spread.high()),
-            (666_666_666_666, 666_666_666_667)
-        );
-        let wide = Span::between(-3, 5);
-        let spread = zone_to_zone(&three(rt.alloc(), wide, wide, wide)?);
-        assert_eq!(rt; (spread.low(), spread.high()), (0, 8));
-        let twentieth = Span::exactly(-50_000_000_000);
-        let spread = zone_to_zone(&three(rt.alloc(), zero, twentieth, zero)?);
-        assert_eq!(rt;
-            classify(spread, 50),
-            Class::Certain,
-            "exactly the threshold"
-        );
-        assert_eq!(rt;
-            classify(Span::between(49_999_999_999, 50_000_000_001), 50),
-            Class::Doubtful
-        );
-        assert_eq!(rt;
-            classify(Span::between(49_999_999_999, 50_000_000_000), 50),
-            Class::Doubtful
-        );
-        assert_eq!(rt;
-            classify(Span::between(0, 49_999_999_999), 50),
-            Class::Below
-        );
-        Ok(())
     }
 }

@@ -10,7 +10,8 @@ use Rattle.fractions.specs.Spans.{Lies, LiesAt, EachLiesAt}
 use Rattle.fractions.specs.SpanLaws.{Lies-Same, Lies-whole, Lies-plus, Lies-minus, Lies-product}
 use Rattle.fb_span.specs.LeastSpans.{least_corner, greatest_corner}
 use Rattle.fb_types.specs.declared.rows.Bounds.{Bounds}
-use Rattle.domain_rows.specs.Brackets.{trillion, coefficient_of, deviation_of, ends_of_box, least_deviation, greatest_deviation, inner_side, outer_side, IsInBox, exchanged_at, Brackets}
+use Rattle.security.specs.Points.{IsInBox}
+use Rattle.domain_rows.specs.Brackets.{trillion, coefficient_of, deviation_of, ends_of_box, least_deviation, greatest_deviation, inner_side, outer_side, exchanged_at, Brackets}
 
 -- ---- sums of products of two lists
 

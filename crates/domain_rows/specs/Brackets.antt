@@ -1,14 +1,16 @@
--- The two sides of a row of the domain: whole coefficients and right sides between which the exact row lies.
--- Factors and coefficients are in 10^-12, net positions and right sides in watts, margins in picowatts.
-use Rattle.std.specs.Prelude.{ℕ, ◌<◌, ℤ, pos, ◌+ℤ◌, ◌-ℤ◌, ◌≤ℤ◌, ◌≡◌, List, length, slice_get}
+-- The two sides of a row of the domain, from spans. Nobody need read this to know what a domain promises.
+-- They are whole coefficients and right sides between which the exact row lies. Factors and coefficients are in 10^-12, net
+-- positions and right sides in watts, margins in picowatts.
+use Rattle.std.specs.Prelude.{ℤ, pos, ◌+ℤ◌, ◌-ℤ◌, List}
 use Rattle.std.specs.List.{zip}
 use Rattle.whole_laws.specs.Quotients.{floor_of, ceil_of}
-use Rattle.whole_laws.specs.Sums.{sum_over, at}
+use Rattle.whole_laws.specs.Sums.{sum_over}
 use Rattle.fractions.specs.Fractions.{Fraction, AtMost, times, total}
 use Rattle.fractions.specs.Spans.{LiesAt, EachLiesAt}
 use Rattle.fb_span.specs.LeastSpans.{least_corner, greatest_corner}
-use Rattle.fb_types.specs.Domain.{Meets, low_of, high_of}
+use Rattle.fb_types.specs.Domain.{Meets}
 use Rattle.fb_types.specs.declared.rows.Bounds.{Bounds}
+use Rattle.security.specs.Points.{IsInBox}
 
 -- the number of 10^-12 in one, and of picowatts in a watt
 abbrev pub trillion : ℤ
@@ -40,11 +42,6 @@ abbrev pub outer_side : List (ℤ × ℤ) → List Bounds → ℤ × ℤ → ℤ
 outer_side factors bounds ram = ceil_of (ram.1 -ℤ least_deviation factors bounds) trillion
 
 -- ---- what the two sides are for
-
--- one net position for each zone, each within the zone's bounds
-pub record IsInBox (bounds : List Bounds) (x : List ℤ) : Type 0 where
-  pub zones : length x ≡ length bounds
-  pub inside : (z : ℕ) → z < length bounds → (low_of (slice_get bounds z) ≤ℤ at x z) × (at x z ≤ℤ high_of (slice_get bounds z))
 
 -- what exact factors put on the row at x: the sum of factor times net position
 abbrev pub exchanged_at : List Fraction → List ℤ → Fraction

@@ -1,7 +1,7 @@
 //! The rows of a domain: whole coefficients, and two right sides between which the exact row lies.
 #![tactic(auto)]
 
-ghost use Rattle.std.specs.Prelude.{◌≡◌, ◌*◌, ℤ, pos, ◌+ℤ◌, ◌-ℤ◌, ◌≤ℤ◌, length, map, IfOk};
+ghost use Rattle.std.specs.Prelude.{◌≡◌, ◌*◌, ℤ, pos, ◌+ℤ◌, ◌-ℤ◌, ◌≤ℤ◌, length, map};
 ghost use Rattle.std.specs.List.{All};
 ghost use Rattle.whole_laws.specs.Quotients.{floor_of, ceil_of};
 ghost use Rattle.whole_laws.specs.Sums.{IsWithin};
@@ -176,111 +176,5 @@ pub fn bracket(
     Sides {
         r_in: narrow(sides.low()),
         r_out: narrow(sides.high()),
-    }
-}
-
-#[cfg(test)]
-mod tests {
-    use super::*;
-    use std::alloc::{AllocError, Global};
-
-    /// Three factors.
-    type Factors = (Span<i128>, Span<i128>, Span<i128>);
-
-    fn listed(alloc: Global, factors: Factors) -> Result<Items<Span<i128>>, AllocError>
-        requires { EndsWithin 1_000_000_000_000 factors.0 × EndsWithin 1_000_000_000_000 factors.1 × EndsWithin 1_000_000_000_000 factors.2 }
-        ensures count { IfOk result (λ items. length items ≡ 3) }
-        ensures factors_in { IfOk result (λ items. All (EndsWithin 1_000_000_000_000) items) }
-    {
-        let mut items = Items::new(alloc);
-        items.add(factors.0)?;
-        items.add(factors.1)?;
-        items.add(factors.2)?;
-        Ok(items)
-    }
-
-    /// The bounds of ±1000 MW for three zones.
-    fn bounds(alloc: Global) -> Result<Items<Bounds>, AllocError>
-        ensures count { IfOk result (λ items. length items ≡ 3) }
-        ensures bounds_in { IfOk result AreBounds }
-        ensures ordered { IfOk result (λ items. All (λ b. b.low ≤ℤ b.high) items) }
-    {
-        let bounds = Bounds {
-            low: -1_000_000_000,
-            high: 1_000_000_000,
-        };
-        let mut items = Items::new(alloc);
-        items.add(bounds)?;
-        items.add(bounds)?;
-        items.add(bounds)?;
-        Ok(items)
-    }
-
-    /// The coefficients and the right sides of a row with a margin of so many picowatts.
-    fn row(
-        alloc: Global,
-        factors: Factors,
-        low: i128,
-        high: i128,
-    ) -> Result<(Vec<i64>, Sides), AllocError>
-        requires factors_in { EndsWithin 1_000_000_000_000 factors.0 × EndsWithin 1_000_000_000_000 factors.1 × EndsWithin 1_000_000_000_000 factors.2 }
-        requires low_in { IsWithin 5_000_000_000_000_000_000_000_000 low }
-        requires high_in { IsWithin 5_000_000_000_000_000_000_000_000 high }
-        requires ordered { low ≤ℤ high }
-    {
-        let mut a = vec![in alloc; 0; 3]?;
-        let sides = bracket(
-            &listed(alloc, factors)?,
-            Span::between(low, high),
-            &bounds(alloc)?,
-            &mut a,
-        );
-        Ok((a, sides))
-    }
-
-    #[test]
-    fn rows_of_a_triangle(rt: HostRuntime) -> Result<(), AllocError> {
-        let half_gigawatt = 500_000_000_000_000_000_000;
-        let zero = Span::exactly(0);
-        let direct = (
-            zero,
-            Span::between(-666_666_666_667, -666_666_666_666),
-            Span::between(-333_333_333_334, -333_333_333_333),
-        );
-        let (a, sides) = row(rt.alloc(), direct, half_gigawatt, half_gigawatt)?;
-        assert_eq!(rt;
-            a.as_slice(),
-            [0, -666_666_666_667, -333_333_333_334].as_slice()
-        );
-        assert_eq!(rt; (sides.r_in, sides.r_out), (499_999_999, 500_000_001));
-        let opposite = (
-            zero,
-            Span::between(666_666_666_666, 666_666_666_667),
-            Span::between(333_333_333_333, 333_333_333_334),
-        );
-        let (a, sides) = row(rt.alloc(), opposite, half_gigawatt, half_gigawatt)?;
-        assert_eq!(rt;
-            a.as_slice(),
-            [0, 666_666_666_666, 333_333_333_333].as_slice()
-        );
-        assert_eq!(rt; (sides.r_in, sides.r_out), (499_999_999, 500_000_001));
-        let exact = Span::exactly(-1_000_000_000_000);
-        let (a, sides) = row(
-            rt.alloc(),
-            (zero, exact, zero),
-            half_gigawatt,
-            half_gigawatt,
-        )?;
-        assert_eq!(rt; a.as_slice(), [0, -1_000_000_000_000, 0].as_slice());
-        assert_eq!(rt; (sides.r_in, sides.r_out), (500_000_000, 500_000_000));
-        let (a, sides) = row(
-            rt.alloc(),
-            (zero, exact, zero),
-            half_gigawatt - 1,
-            half_gigawatt + 1,
-        )?;
-        assert_eq!(rt; a.as_slice(), [0, -1_000_000_000_000, 0].as_slice());
-        assert_eq!(rt; (sides.r_in, sides.r_out), (499_999_999, 500_000_001));
-        Ok(())
     }
 }

@@ -12,9 +12,10 @@ use Rattle.fb_types.specs.declared.grid.Grid.{Grid}
 use Rattle.fb_types.specs.declared.keys.Block.{Block}
 use Rattle.grid_state.specs.GridState.{GridState, class_at, carries_at, IsSound}
 use Rattle.grid_laplacian.specs.Laws.{laplacian_at}
-use Rattle.exact_flows.specs.Quotients.{divisor_of, divisor-positive, divided}
-use Rattle.exact_flows.specs.Balances.{of_class, base_balance, weight_at, block_weights, Exchange, balance_with, IsBalanceTimes}
-use Rattle.exact_flows.specs.Flows.{ExactAngles, AreAnglesOf, NumberedBranch, flow_of, shifted_by, in_watts, factor_of, AreAnglesOfKey, SolvedExchange, Superposition}
+use Rattle.security.specs.Quotients.{divisor_of, divisor-positive, divided}
+use Rattle.security.specs.Balances.{of_class, base_balance, weight_at, block_weights, balance_with}
+use Rattle.security.specs.Flows.{ExactAngles, AreAnglesOf, AreAnglesFor, NumberedBranch, flow_of, shifted_by, in_watts, factor_of, AreAnglesOfKey}
+use Rattle.exact_flows.specs.AddedFlows.{SolvedExchange, Superposition}
 use Rattle.exact_flows.proofs.Listed.{at_classes, class_below}
 use Rattle.exact_flows.proofs.Solutions.{Solution, Meets, flow, join, stretch, narrow, joined, Meets-join, Meets-stretch, Meets-narrow, Meets-same, Meets-joined, Meets_unique, flow-join, flow-stretch, flow-narrow, flow_unique, flow-joined}
 use Rattle.exact_flows.proofs.Points.{block_part, zone_part, moved, balance_is}
@@ -107,11 +108,8 @@ made_meets s grid zones reference h k =
     (Meets-stretch s (pos (10 ^ 9)) (λ i. total (λ z. times (difference z) (zone_part s i z.exchange.key)) zones) (joined (λ z. stretch (difference z) (zone_solution z)) zones)
     (Meets-joined s (λ z i. times (difference z) (zone_part s i z.exchange.key)) (λ z. stretch (difference z) (zone_solution z)) zones (zones_meet s zones k))))
 
-point_meets : (s : GridState) (grid : Grid) (zones : List Exchange) (q : ℕ) (p : List ℤ) (point : ExactAngles) → IsBalanceTimes s grid zones q p → AreAnglesOf s p point
-    → Meets s (balance_with s grid zones) (narrow (divisor_of (pos q)) (divisor-positive (pos q)) (as_solution point))
-point_meets s grid zones q p point b h =
-    Meets-same s (λ i. divided (whole (at p i)) (pos q)) (balance_with s grid zones) _ b.scaled
-    (Meets-narrow s (divisor_of (pos q)) (divisor-positive (pos q)) (λ i. whole (at p i)) (as_solution point) (solution_meets s p point h))
+point_meets : (s : GridState) (r : ℕ → Fraction) (point : ExactAngles) → AreAnglesFor s r point → Meets s r (as_solution point)
+point_meets s r point h = record { held = h.fixed; balanced = h.balanced }
 
 -- ---- flows
 
@@ -177,21 +175,18 @@ giga_watts : (t : Fraction) → Same (in_watts (times (pos (10 ^ 9)) t)) t
 giga_watts t = Same_trans (over-times (pos (10 ^ 9)) t (divisor_of (pos (10 ^ 9))) (divisor-positive (pos (10 ^ 9)))) (times-over t (pos (10 ^ 9)) (divisor-positive (pos (10 ^ 9))))
 
 pub superposition : (s : GridState) → IsSound s → (grid : Grid) → Superposition s grid
-superposition s sound grid c zones reference point q p ref_ok zones_ok balance point_ok =
+superposition s sound grid c zones reference point ref_ok zones_ok point_ok =
     let b = carried s c in
     let i = class_at s c.branch.from in
     let j = class_at s c.branch.to in
-    let k = divisor_of (pos q) in
-    let h = divisor-positive (pos q) in
     let r = balance_with s grid (map (λ z. z.exchange) zones) in
-    let one = point_meets s grid (map (λ z. z.exchange) zones) q p point balance point_ok in
+    let one = point_meets s r point point_ok in
     let other = made_meets s grid zones reference ref_ok zones_ok in
-    let unique = Meets_unique s sound r (narrow k h (as_solution point)) (made reference zones) one other in
-    let at_point : Same (divided (flow_of s c point) (pos q)) (plus (flow b i j (as_solution reference)) (times (pos (10 ^ 9)) (total (λ z. times (difference z) (zone_flow b i j z)) zones))) =
-    Same_trans (Same-over k h (flow_is s c point))
-    (Same_trans (Same_sym (flow-narrow b i j k h (as_solution point)))
-    (Same_trans (flow_unique b i j (narrow k h (as_solution point)) (made reference zones) (unique i (class_below s sound c.branch.from)) (unique j (class_below s sound c.branch.to)))
-    (flow_made b i j reference zones))) in
+    let unique = Meets_unique s sound r (as_solution point) (made reference zones) one other in
+    let at_point : Same (flow_of s c point) (plus (flow b i j (as_solution reference)) (times (pos (10 ^ 9)) (total (λ z. times (difference z) (zone_flow b i j z)) zones))) =
+    Same_trans (flow_is s c point)
+    (Same_trans (flow_unique b i j (as_solution point) (made reference zones) (unique i (class_below s sound c.branch.from)) (unique j (class_below s sound c.branch.to)))
+    (flow_made b i j reference zones)) in
     let moved_flow = total (λ z. times (difference z) (zone_flow b i j z)) zones in
     let shifted = whole (shifted_by s c) in
     let giga = divisor_of (pos (10 ^ 9)) in

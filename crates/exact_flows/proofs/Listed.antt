@@ -8,7 +8,7 @@ use Rattle.whole_laws.specs.Sums.{at}
 use Rattle.grid_state.specs.declared.types.Edge.{Edge}
 use Rattle.grid_state.specs.GridState.{GridState, classes_of, class_at, row_of, IsEdge, IsSound}
 use Rattle.grid_laplacian.specs.Laws.{drop_over, laplacian_at}
-use Rattle.exact_flows.specs.Balances.{for_classes}
+use Rattle.security.specs.Balances.{for_classes}
 
 -- ---- lists for classes
 

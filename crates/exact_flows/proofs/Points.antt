@@ -12,8 +12,8 @@ use Rattle.fb_types.specs.declared.grid.Grid.{Grid}
 use Rattle.fb_types.specs.declared.keys.Block.{Block}
 use Rattle.fb_types.specs.declared.keys.Column.{Column}
 use Rattle.grid_state.specs.GridState.{GridState, classes_of, class_at}
-use Rattle.exact_flows.specs.Quotients.{divisor_of, divisor-positive, divided}
-use Rattle.exact_flows.specs.Balances.{of_class, injection_at, shifts_at, base_balance, weight_at, key_at, Exchange, injection_with, balance_with}
+use Rattle.security.specs.Quotients.{divisor_of, divisor-positive, divided}
+use Rattle.security.specs.Balances.{of_class, injection_at, shifts_at, base_balance, weight_at, key_at, Exchange, injection_with, balance_with}
 use Rattle.exact_flows.proofs.Listed.{at_classes}
 
 -- ---- sums over the nodes of a class

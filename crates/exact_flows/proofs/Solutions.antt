@@ -10,7 +10,7 @@ use Rattle.fractions.specs.FractionLaws.{Same_refl, Same_sym, Same_trans, Same-p
 use Rattle.grid_state.specs.GridState.{GridState, classes_of, is_free, IsSound}
 use Rattle.grid_laplacian.specs.Laws.{Solves}
 use Rattle.grid_laplacian.proofs.LawProofs.{uniqueness_holds}
-use Rattle.exact_flows.specs.Balances.{for_classes}
+use Rattle.security.specs.Balances.{for_classes}
 use Rattle.exact_flows.proofs.Listed.{table, table_linear, at_classes, length_classes, listed_table}
 
 -- angles of the classes over one positive denominator

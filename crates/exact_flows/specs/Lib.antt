@@ -1,3 +1,1 @@
-pub mod Quotients
-pub mod Balances
-pub mod Flows
+pub mod AddedFlows

@@ -2,7 +2,7 @@
 //! flows of net positions add up.
 #![tactic(auto)]
 
-ghost use Rattle.exact_flows.specs.Flows.{Superposition};
+ghost use Rattle.exact_flows.specs.AddedFlows.{Superposition};
 
 use fb_types::Grid;
 use grid_state::State;

@@ -5,6 +5,7 @@ use Rattle.std.proofs.lemmas.Option.{slice_get_read, same_Some}
 use Rattle.fb_types.specs.declared.crac.Element.{Element}
 use Rattle.grid_state.specs.GridState.{GridState}
 use Rattle.branch_spans.specs.FlowSpans.{ForBranch}
+use Rattle.security.specs.Secure.{RowPlace}
 use Rattle.run_settings.specs.Reductions.{limit_in, is_limited}
 use Rattle.state_proofs.specs.StateProofs.{IsStateProof}
 use Rattle.state_proofs.specs.declared.StateProof.{StateProof}
@@ -13,12 +14,13 @@ use Rattle.cnec_rows.specs.declared.types.RowTerms.{RowTerms}
 use Rattle.cnec_rows.specs.declared.types.RowZones.{RowZones}
 use Rattle.cnec_rows.specs.declared.types.RowSpans.{RowSpans}
 use Rattle.cnec_rows.specs.declared.types.RowProof.{RowProof}
-use Rattle.fb_certificate.specs.Capacity.{HoldRow, IsRight, exact_row, zones_in}
+use Rattle.fb_certificate.specs.Capacity.{HoldRow, IsRight}
 use Rattle.fb_certificate.specs.CracRows.{CracRow, state_number, state_of_row}
 use Rattle.fb_certificate.specs.ElementRows.{IsRowIn}
-use Rattle.fb_certificate.specs.Valid.{RowPlace, AreNumbersOf, AreProofs, branch_of, stated}
+use Rattle.fb_certificate.specs.Situations.{zones_in, exact_row, branch_of, stated}
+use Rattle.fb_certificate.specs.Valid.{AreNumbersOf, AreProofs}
 use Rattle.fb_certificate.specs.Whole.{IsWhole, row_zones}
-use Rattle.fb_certificate.specs.WholeLaws.{zip_length, element_fits, state_below, stated_fit}
+use Rattle.fb_certificate.proofs.WholeLaws.{zip_length, element_fits, state_below, stated_fit}
 use Rattle.fb_certificate.specs.declared.types.Inputs.{Inputs}
 
 there : {X : Type 0} (xs : List X) (i : ℕ) → i < length xs → (x : X) × (slice_get xs i ≡ Some x)

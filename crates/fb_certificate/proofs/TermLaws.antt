@@ -11,7 +11,7 @@ use Rattle.run_settings.specs.declared.reduction.Reduction.{Reduction}
 use Rattle.cnec_rows.specs.declared.types.RowTerms.{RowTerms}
 use Rattle.fb_certificate.specs.CracRows.{CracRow}
 use Rattle.fb_certificate.specs.ElementRows.{IsRowIn}
-use Rattle.fb_certificate.specs.Valid.{stated}
+use Rattle.fb_certificate.specs.Situations.{stated}
 use Rattle.fb_certificate.specs.declared.types.Inputs.{Inputs}
 
 abbrev pub terms_with : Inputs → Element → Bool → ℤ → ℤ → ℤ → ℤ → RowTerms

@@ -4,26 +4,29 @@ use Rattle.std.specs.Prelude.{Option, Some, None, IfSome, slice_get, ◌==◌, �
 use Rattle.std.specs.List.{AllZip}
 use Rattle.std.specs.Option.{option_map_or}
 use Rattle.std.proofs.lemmas.Bool.{eqb-true}
-use Rattle.std.proofs.lemmas.List.Elements.{All-head, All-tail}
+use Rattle.std.proofs.lemmas.List.Elements.{All-head, All-tail, All-map}
 use Rattle.fb_types.specs.Domain.{IsPoint, Meets, Follows, row_at}
 use Rattle.fb_types.specs.FollowsLaws.{Follows-implies}
 use Rattle.fb_types.specs.declared.grid.Grid.{Grid}
 use Rattle.fb_types.specs.declared.rows.Bounds.{Bounds}
 use Rattle.fb_types.specs.declared.rows.Half.{Half}
 use Rattle.grid_state.specs.GridState.{GridState}
-use Rattle.row_numbers.specs.Spreads.{IsSelected}
+use Rattle.security.specs.Spreads.{IsSelected}
 use Rattle.row_security.specs.Choices.{HasChoices}
-use Rattle.row_security.specs.Rows.{Row, KeyedZone, Choice, IsChoice, spread_of_row}
-use Rattle.domain_rows.specs.Brackets.{IsInBox}
+use Rattle.security.specs.Rows.{Row, KeyedZone, Choice, IsChoice, spread_of_row, IsAlwaysSelected}
+use Rattle.security.specs.Points.{IsInBox}
+use Rattle.security.specs.Secure.{IsSafeRow, IsSecure}
+use Rattle.security.specs.Capacity.{IsPosition}
 use Rattle.cnec_selection.specs.declared.Class.{Class}
 use Rattle.cnec_selection.specs.declared.Class.TheVariants.{Below, Doubtful, Certain}
-use Rattle.cnec_rows.specs.RowNumbers.{IsOfClass, IsAlwaysSelected}
+use Rattle.cnec_rows.specs.RowNumbers.{IsOfClass}
 use Rattle.cnec_rows.specs.declared.types.RowProof.{RowProof}
 use Rattle.run_settings.specs.Laws.{core_bounds}
 use Rattle.fb_certificate.specs.CracRows.{CracRow, crac_rows, state_of_row}
 use Rattle.fb_certificate.specs.Lists.{ListKind, is_inner, is_outer, outer_half, inner_list, outer_list, numbered, is_listed, is_removed, is_kept, IsCite, AreCites}
 use Rattle.fb_certificate.specs.Valid.{IsRowOf, IsValid}
-use Rattle.fb_certificate.specs.Capacity.{zones_in, exact_row, IsSafeRow, IsSecure, IsPosition, MeetsRow, MeetsInner, MeetsOuter, IsRight, IsCapacity}
+use Rattle.fb_certificate.specs.Situations.{zones_in, monitored, situation_of, exact_row}
+use Rattle.fb_certificate.specs.Capacity.{MeetsRow, MeetsInner, MeetsOuter, IsRight, IsCapacity}
 use Rattle.fb_certificate.specs.declared.types.Inputs.{Inputs}
 use Rattle.fb_certificate.specs.declared.types.Cite.{Cite}
 use Rattle.fb_certificate.specs.declared.types.Certificate.{Certificate}
@@ -49,6 +52,12 @@ module _ {X : Type 0} where
   all_found P xs k x e h =
       let below = found_below xs k x e in
       subst P (same_some (get_or xs k x) x (sym (get_some xs k x below) ∙ e)) (h k x below)
+
+-- P of the image of the item at a place
+map_at : {X Y : Type 0} (P : Y → Type 0) (f : X → Y) (xs : List X) (k : ℕ) (d : X) → k < length xs → All P (map f xs) → P (f (get_or xs k d))
+map_at P f [] k d lt h = absurd (omega arith)
+map_at P f (x ∷ xs) zero d lt h = All-head P (f x) (map f xs) h
+map_at P f (x ∷ xs) (suc k) d lt h = map_at P f xs k d (omega arith) (All-tail P (f x) (map f xs) h)
 
 module _ {A B : Type 0} (R : A → B → Type 0) where
   zip_length : (xs : List A) (ys : List B) → AllZip R xs ys → length xs ≡ length ys
@@ -183,20 +192,20 @@ module _ (inputs : Inputs) (c : Certificate) (valid : IsValid inputs c) (choices
   as_many : length rows ≡ length c.rows
   as_many = zip_length (IsRight inputs) rows c.rows right
 
-  safe : (x : List ℤ) → IsPosition inputs x → MeetsInner c x → (row : CracRow) (numbers : RowProof) (k : ℕ) → slice_get c.rows k ≡ Some numbers → IsRight inputs row numbers → IsSafeRow inputs x row
-  safe x point meets row numbers k found is place is_place choice is_choice at_x selected =
+  safe : (x : List ℤ) → IsPosition (situation_of inputs) x → MeetsInner c x → (row : CracRow) (numbers : RowProof) (k : ℕ) → slice_get c.rows k ≡ Some numbers → IsRight inputs row numbers → IsSafeRow (situation_of inputs) x (monitored inputs row)
+  safe x point meets row numbers k found is place is_place choice is_choice e at_x selected =
       let holds = is place is_place in
       let inner = selected_is_inner place.state inputs.grid (zones_in inputs) (exact_row inputs row place) inputs.settings.threshold numbers.class holds.of_class choice is_choice selected in
       let met = listed_meets inner_list bounds c.rows c.inner valid.inner x point meets k numbers found inner in
-      holds.brackets.inner choice is_choice x (in_box bounds x point) at_x met
+      holds.brackets.inner choice is_choice x (in_box bounds x point) e at_x met
 
-  secure : (x : List ℤ) → IsPosition inputs x → MeetsInner c x → IsSecure inputs x
+  secure : (x : List ℤ) → IsPosition (situation_of inputs) x → MeetsInner c x → IsSecure (situation_of inputs) x
   secure x point meets = record {
-    each = λ k d lt.
-        safe x point meets (get_or rows k d) (get_or c.rows k no_row) k (get_some c.rows k no_row (let e = as_many in omega arith)) (zip_at (IsRight inputs) rows c.rows k d no_row right lt);
+    each = All-map (IsSafeRow (situation_of inputs) x) (monitored inputs) rows
+        (λ k d lt. safe x point meets (get_or rows k d) (get_or c.rows k no_row) k (get_some c.rows k no_row (let e = as_many in omega arith)) (zip_at (IsRight inputs) rows c.rows k d no_row right lt));
   }
 
-  met : (x : List ℤ) → IsPosition inputs x → IsSecure inputs x → (row : CracRow) (numbers : RowProof) → is_outer numbers.class ≡ true → IsSafeRow inputs x row → IsRowOf inputs c.states row numbers → IsRight inputs row numbers → Meets (outer_half numbers) x
+  met : (x : List ℤ) → IsPosition (situation_of inputs) x → IsSecure (situation_of inputs) x → (row : CracRow) (numbers : RowProof) → is_outer numbers.class ≡ true → IsSafeRow (situation_of inputs) x (monitored inputs row) → IsRowOf inputs c.states row numbers → IsRight inputs row numbers → Meets (outer_half numbers) x
   met x point is_secure row numbers outer is_safe of is =
       let place = of.are.place in
       let is_place = of.are.is_place in
@@ -204,11 +213,11 @@ module _ (inputs : Inputs) (c : Certificate) (valid : IsValid inputs c) (choices
       let some = all_found (λ (s : GridState). HasChoices s inputs.grid) inputs.states (state_of_row inputs.outages row) place.state is_place.state choices in
       let choice = (some.some (zones_in inputs)).0 in
       let is_choice = (some.some (zones_in inputs)).1 in
-      let at_x = some.each (zones_in inputs) choice is_choice x in
+      let at_x = some.each (zones_in inputs) x in
       let selected = outer_is_selected place.state inputs.grid (zones_in inputs) (exact_row inputs row place) inputs.settings.threshold numbers.class holds.of_class outer choice is_choice in
-      holds.brackets.outer choice is_choice x (in_box bounds x point) at_x (is_safe place is_place choice is_choice at_x selected)
+      holds.brackets.outer choice is_choice x (in_box bounds x point) at_x.0 at_x.1 (is_safe place is_place choice is_choice at_x.0 at_x.1 selected)
 
-  meets_outer : (x : List ℤ) → IsPosition inputs x → IsSecure inputs x → MeetsOuter c x
+  meets_outer : (x : List ℤ) → IsPosition (situation_of inputs) x → IsSecure (situation_of inputs) x → MeetsOuter c x
   meets_outer x point is_secure number listed =
       let l = listed_row outer_list c.rows number listed in
       let below = found_below c.rows l.place l.row l.found in
@@ -223,9 +232,10 @@ module _ (inputs : Inputs) (c : Certificate) (valid : IsValid inputs c) (choices
           from [] e = absurd (let f = ap length e in omega arith)
           from (d ∷ more) e =
               let same : get_or c.rows k numbers ≡ numbers = same_some _ _ (sym (get_some c.rows k numbers (found_below c.rows k numbers found)) ∙ found) in
-              met x point is_secure (get_or rows k d) numbers outer (is_secure.each k d there)
+              met x point is_secure (get_or rows k d) numbers outer
+              (map_at (IsSafeRow (situation_of inputs) x) (monitored inputs) rows k d there is_secure.each)
               (subst (IsRowOf inputs c.states (get_or rows k d)) same (zip_at (IsRowOf inputs c.states) rows c.rows k d numbers valid.rows there))
               (subst (IsRight inputs (get_or rows k d)) same (zip_at (IsRight inputs) rows c.rows k d numbers right there))
 
   pub capacity : IsCapacity inputs c
-  capacity = record { rows = right; inner = secure; outer = meets_outer }
+  capacity = record { rows = right; secure = record { inner = secure; outer = meets_outer } }

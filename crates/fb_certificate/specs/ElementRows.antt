@@ -1,4 +1,4 @@
--- The row of an element in one direction.
+-- The row of an element in one direction. Nobody need read this to know what a domain promises.
 use Rattle.std.specs.Prelude.{◌≡◌, ℕ, Bool, List, Some, slice_get}
 use Rattle.fb_types.specs.declared.crac.Element.{Element}
 use Rattle.run_settings.specs.Reductions.{limit_in}

@@ -1,7 +1,7 @@
 pub mod CracRows
 pub mod Whole
+pub mod Situations
 pub mod Lists
 pub mod Valid
 pub mod Capacity
 pub mod ElementRows
-pub mod WholeLaws

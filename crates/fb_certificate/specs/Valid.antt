@@ -1,37 +1,19 @@
 -- Valid certificates.
 use Rattle.std.specs.Prelude.{◌≡◌, List, Some, slice_get}
 use Rattle.std.specs.List.{AllZip}
-use Rattle.fb_types.specs.declared.grid.Branch.{Branch}
-use Rattle.grid_state.specs.GridState.{GridState}
-use Rattle.exact_flows.specs.Flows.{NumberedBranch}
+use Rattle.security.specs.Secure.{RowPlace}
 use Rattle.state_proofs.specs.StateProofs.{IsStateProof}
 use Rattle.state_proofs.specs.declared.StateProof.{StateProof}
 use Rattle.cnec_rows.specs.RowNumbers.{row_spans_of, row_proof_of}
-use Rattle.cnec_rows.specs.declared.types.RowTerms.{RowTerms}
 use Rattle.cnec_rows.specs.declared.types.RowSpans.{RowSpans}
 use Rattle.cnec_rows.specs.declared.types.RowProof.{RowProof}
 use Rattle.run_settings.specs.Laws.{core_bounds}
-use Rattle.fb_certificate.specs.CracRows.{CracRow, crac_rows, state_of_row, terms_of}
+use Rattle.fb_certificate.specs.CracRows.{CracRow, crac_rows, state_of_row}
 use Rattle.fb_certificate.specs.Whole.{row_zones}
+use Rattle.fb_certificate.specs.Situations.{stated, IsPlaceOf, branch_of}
 use Rattle.fb_certificate.specs.Lists.{inner_list, outer_list, AreCites}
 use Rattle.fb_certificate.specs.declared.types.Inputs.{Inputs}
 use Rattle.fb_certificate.specs.declared.types.Certificate.{Certificate}
-
--- the state that a row is monitored in, and its branch
-pub record RowPlace : Type 0 where
-  pub state : GridState
-  pub branch : Branch
-
-pub record IsPlaceOf (inputs : Inputs) (row : CracRow) (place : RowPlace) : Type 0 where
-  pub state : slice_get inputs.states (state_of_row inputs.outages row) ≡ Some place.state
-  pub branch : slice_get inputs.grid.branches row.element.branch ≡ Some place.branch
-
--- the branch with its number
-abbrev pub branch_of : CracRow → RowPlace → NumberedBranch
-branch_of row place = record { number = row.element.branch; branch = place.branch }
-
-abbrev pub stated : Inputs → CracRow → RowTerms
-stated inputs row = terms_of inputs.settings inputs.reductions row
 
 -- the numbers of a row are those that the proofs of the states give
 pub record AreNumbersOf (inputs : Inputs) (proofs : List StateProof) (row : CracRow) (spans : RowSpans) (numbers : RowProof) : Type 0 where

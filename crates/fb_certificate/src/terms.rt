@@ -7,7 +7,7 @@ ghost use Rattle.std.specs.Option.{option_map_or};
 ghost use Rattle.run_settings.specs.Reductions.{limit_in, is_limited};
 ghost use Rattle.fb_certificate.specs.CracRows.{CracRow, state_number};
 ghost use Rattle.fb_certificate.specs.ElementRows.{IsRowIn};
-ghost use Rattle.fb_certificate.specs.Valid.{stated};
+ghost use Rattle.fb_certificate.specs.Situations.{stated};
 ghost use Rattle.fb_certificate.specs.Whole.{IsWhole};
 
 use crate::types::Inputs;

@@ -3,8 +3,9 @@ use Rattle.std.proofs.Common.{◌≡◌, ◌⊎◌, ℕ, List, ◌∷◌, inl, i
 use Rattle.std.specs.Prelude.{Option, Some, None, Result, Ok, Err, IsTrue}
 use Rattle.fb_certificate.specs.declared.types.Inputs.{Inputs}
 use Rattle.rows_document.specs.declared.reader.RowsDocument.{RowsDocument}
-use Rattle.fbcc_core.specs.Causes.{Comes, IsOutOfMemory, IsCaused, Refuses, Judges, Completes, IsUntouched}
+use Rattle.fbcc_core.specs.Causes.{Comes, IsOutOfMemory, IsCaused, Refuses, Judges, Completes, IsUntouched, Took}
 use Rattle.fbcc_core.specs.Commands.{IsYes, IsNo, domain_inputs, domain_work, work_of}
+use Rattle.fbcc_core.specs.Printed.{IsDomainPut, PrintsCapacity}
 use Rattle.fbcc_core.specs.Seen.{ShelfSeen, SinkSeen, ShelfFailed}
 use Rattle.fbcc_core.specs.Steps.{IsMemory}
 use Rattle.fbcc_core.specs.Telling.{IsMade, IsKept}
@@ -170,3 +171,22 @@ completes words shelf out answer (inr (inr (inl r))) inputs asked given told fin
     inr (memory_answer answer r.fault r.is (domain_refused words shelf told fine inputs given r.fault (steps_same words shelf (Err r.fault) command.Domain asked r.comes)))
 completes words shelf out answer (inr (inr (inr (inl u)))) inputs asked given told fine put = absurd (put u.put.0)
 completes words shelf out answer (inr (inr (inr (inr s)))) inputs asked given told fine put = inr s.is
+
+-- ---- A domain that is printed
+
+domain_put : (words : List (List ℕ)) (shelf : ShelfSeen) (out : SinkSeen) (work : Work) → domain_work words shelf (Ok work) → Took out work.text → IsDomainPut words shelf out
+domain_put words shelf out work h put = record {
+  inputs = h.0;
+  said = h.1;
+  certificate = h.2.certificate;
+  valid = h.2.valid;
+  capacity = h.2.capacity;
+  put = subst (Took out) h.2.text put;
+}
+
+pub prints_capacity : (words : List (List ℕ)) (shelf : ShelfSeen) (out : SinkSeen) (answer : Option Fault) → IsCaused words shelf out answer → PrintsCapacity words shelf out answer
+prints_capacity words shelf out answer (inl m) asked none = absurd (m.refused (record { command = command.Domain; asked = asked }))
+prints_capacity words shelf out answer (inr (inl d)) asked none = domain_put words shelf out d.work (steps_same words shelf (Ok d.work) command.Domain asked d.comes) d.put
+prints_capacity words shelf out answer (inr (inr (inl r))) asked none = absurd (let e = r.is in cc)
+prints_capacity words shelf out answer (inr (inr (inr (inl u)))) asked none = absurd (let e = u.is in cc)
+prints_capacity words shelf out answer (inr (inr (inr (inr s)))) asked none = absurd (subst IsOutOfMemory none s.is)

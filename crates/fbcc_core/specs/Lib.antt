@@ -1,6 +1,7 @@
 pub mod Causes
 pub mod Commands
 pub mod Kinds
+pub mod Printed
 pub mod Reading
 pub mod Seen
 pub mod Statuses

@@ -3,6 +3,7 @@
 ghost use Rattle.std.specs.Prelude.{◌≡◌, ◌⊎◌, ◌↔◌, Some, map, string_bytes};
 ghost use Rattle.fbcc_core.specs.Causes.{IsCaused, Refuses, Judges, Completes, IsTold, Took, TookPrefix};
 ghost use Rattle.fbcc_core.specs.Commands.{work_of};
+ghost use Rattle.fbcc_core.specs.Printed.{PrintsCapacity};
 ghost use Rattle.fbcc_core.specs.Seen.{shelf_seen, sink_seen};
 ghost use Rattle.fbcc_core.specs.Statuses.{status_of};
 ghost use Rattle.fbcc_core.specs.Words.{Accepts, Asks};
@@ -44,6 +45,14 @@ pub fn fbcc<H: Shelf, O: Sink, E: Sink>(
     ensures refuses { Refuses (map string_bytes words.now) (shelf_seen H.tells H.held H.faults H.last_failed shelf.old shelf.new) result.fault }
     ensures judges { Judges (map string_bytes words.now) (shelf_seen H.tells H.held H.faults H.last_failed shelf.old shelf.new) (sink_seen O.tells O.taken O.faults out.old out.new) result.fault }
     ensures completes { Completes (map string_bytes words.now) (shelf_seen H.tells H.held H.faults H.last_failed shelf.old shelf.new) (sink_seen O.tells O.taken O.faults out.old out.new) result.fault }
+
+    // The capacity theorem: where the words ask for a domain and the answer is no fault, what was put is the table of a valid
+    // certificate, for the inputs that the documents say. Every balanced list of net positions in the box that meets its kept inner
+    // rows is secure, and every secure one meets its outer rows: `BracketSecure` (security/specs/Capacity.antt). What secure is:
+    // `IsSecure` (security/specs/Secure.antt). Each row, kept or not, brackets its own exact flow, its gap lying between its two
+    // sides: `IsBracketed` (security/specs/Capacity.antt). Rows that are removed follow from kept ones: `AreCites`
+    // (fb_certificate/specs/Lists.antt), which is a part of a valid certificate.
+    ensures capacity { PrintsCapacity (map string_bytes words.now) (shelf_seen H.tells H.held H.faults H.last_failed shelf.old shelf.new) (sink_seen O.tells O.taken O.faults out.old out.new) result.fault }
 
     // What was put to the error output.
     ensures told { IsTold (sink_seen E.tells E.taken E.faults err.old err.new) result.fault }

@@ -11,8 +11,9 @@ use Rattle.fractions.specs.Fractions.{Fraction, whole, minus, times, over, maxim
 use Rattle.fractions.specs.FractionLaws.{Same_refl, Same_sym, Same_trans, Same-minus, Same-maximum, Same-times, times-minus, times-maximum, minus-whole}
 use Rattle.fractions.specs.Spans.{Lies}
 use Rattle.fractions.specs.SpanLaws.{Lies-Same, Lies-whole, Lies-minus, Lies-maximum}
-use Rattle.row_numbers.specs.Margins.{ElementNumbers, room_of, minimum_of, fifth_of, ram_of, shortened_ram_of}
-use Rattle.row_numbers.specs.MarginLaws.{ram-shortened}
+use Rattle.security.specs.Margins.{ElementNumbers, room_of, minimum_of, fifth_of, ram_of}
+use Rattle.security.specs.ShorterForms.{shortened_ram_of}
+use Rattle.security.proofs.MarginLaws.{ram-shortened}
 use Rattle.ram_formulas.specs.MarginSpans.{picowatts, margin_at, HoldsMargin}
 
 -- ---- a number as 128 bits hold it

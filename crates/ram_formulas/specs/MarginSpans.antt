@@ -1,23 +1,13 @@
--- The span of the margin, in picowatts.
-use Rattle.std.specs.Prelude.{ℕ, ℤ, pos, ◌+ℤ◌, ◌-ℤ◌, ◌*ℤ◌}
+-- The span of the margin, in picowatts. Nobody need read this to know what a domain promises.
+use Rattle.std.specs.Prelude.{ℤ, pos, ◌+ℤ◌, ◌-ℤ◌, ◌*ℤ◌}
 use Rattle.std.specs.Int.{int_max}
 use Rattle.fractions.specs.Fractions.{Fraction}
 use Rattle.fractions.specs.Spans.{LiesAt}
-use Rattle.row_numbers.specs.Margins.{ElementNumbers, ram_of}
+use Rattle.security.specs.Margins.{ElementNumbers, ram_of}
 
 -- the picowatts in a watt
 abbrev pub picowatts : ℤ
 picowatts = pos 1_000_000_000_000
-
--- the numbers of an element as the call is given them
-abbrev pub numbers_of : ℤ → ℤ → ℕ → ℤ → ℤ → ElementNumbers
-numbers_of limit margin ramr cva iva = record {
-  limit = limit;
-  reliability_margin = margin;
-  minimum_share = pos ramr;
-  coordinated = cva;
-  individual = iva;
-}
 
 -- the margin from F0,Core and Fuaf, all in picowatts:
 -- max(Ramr·Fmax·10^9 − Fuaf, Fmax·2·10^11, (Fmax − FRM)·10^12 − F0,Core) − (CVA + IVA)·10^12

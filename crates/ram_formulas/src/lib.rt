@@ -4,7 +4,8 @@
 ghost use Rattle.std.specs.Prelude.{◌≡◌, ◌≤◌, ℤ, pos, ◌+ℤ◌, ◌-ℤ◌, ◌*ℤ◌, ◌≤ℤ◌};
 ghost use Rattle.whole_laws.specs.Sums.{IsWithin};
 ghost use Rattle.fb_span.specs.Ends.{EndsWithin};
-ghost use Rattle.ram_formulas.specs.MarginSpans.{picowatts, numbers_of, margin_at, HoldsMargin};
+ghost use Rattle.security.specs.Margins.{numbers_of};
+ghost use Rattle.ram_formulas.specs.MarginSpans.{picowatts, margin_at, HoldsMargin};
 
 use fb_span::Span;
 
@@ -118,59 +119,4 @@ pub fn ram(
     let low = margin_from(limit, margin, f0core.high(), fuaf.high(), ramr, cva, iva);
     let high = margin_from(limit, margin, f0core.low(), fuaf.low(), ramr, cva, iva);
     Span::between(low, high)
-}
-
-#[cfg(test)]
-mod tests {
-    use super::*;
-
-    /// The picowatts in a megawatt.
-    const MEGAWATT: i128 = 1_000_000_000_000_000_000;
-
-    /// The ends of the margin at a limit of 1000 MW and a reliability margin of 50 MW, with seventy per cent of the limit
-    /// to remain for exchanges.
-    fn margin_of(f0core: Span<i128>, fuaf: Span<i128>, cva: i64, iva: i64) -> (i128, i128)
-        requires f0core_in { EndsWithin 4_000_000_000_000_000_000_000_000 f0core }
-        requires fuaf_in { EndsWithin 1_000_000_000_000_000_000_000_000 fuaf }
-        requires cva_in { (pos 0 ≤ℤ cva) × (cva ≤ℤ pos 100_000_000_000) }
-        requires iva_in { (pos 0 ≤ℤ iva) × (iva ≤ℤ pos 100_000_000_000) }
-    {
-        let margin = ram(1_000_000_000, 50_000_000, f0core, fuaf, 700, cva, iva);
-        (margin.low(), margin.high())
-    }
-
-    /// The ends of a span that holds one whole number of megawatts.
-    fn both(megawatts: i64) -> (i128, i128) {
-        (
-            i128::from(megawatts) * MEGAWATT,
-            i128::from(megawatts) * MEGAWATT,
-        )
-    }
-
-    #[test]
-    fn margins_in_picowatts(rt: HostRuntime) {
-        let at_300 = Span::exactly(300 * MEGAWATT);
-        let at_600 = Span::exactly(600 * MEGAWATT);
-        let at_850 = Span::exactly(850 * MEGAWATT);
-        assert_eq!(rt; margin_of(at_600, at_600, 0, 0), both(350), "no adjustment");
-        assert_eq!(rt;
-            margin_of(at_850, at_600, 0, 0),
-            both(200),
-            "twenty per cent"
-        );
-        assert_eq!(rt;
-            margin_of(at_600, at_300, 0, 0),
-            both(400),
-            "seventy per cent"
-        );
-        assert_eq!(rt;
-            margin_of(at_600, at_300, 10_000_000, 20_000_000),
-            both(370),
-            "both reductions"
-        );
-        let near_600 = Span::between(600 * MEGAWATT - 3, 600 * MEGAWATT + 10);
-        let near_300 = Span::between(300 * MEGAWATT - 5, 300 * MEGAWATT + 7);
-        let wanted = (400 * MEGAWATT - 7, 400 * MEGAWATT + 5);
-        assert_eq!(rt; margin_of(near_600, near_300, 0, 0), wanted, "spans");
-    }
 }

@@ -8,8 +8,9 @@ use Rattle.fractions.specs.Fractions.{Fraction, whole, plus, minus, times}
 use Rattle.fractions.specs.FractionLaws.{Same_sym, Same-times, times-plus, times-minus, times_left_comm}
 use Rattle.fractions.specs.Spans.{LiesAt, EachLiesAt}
 use Rattle.fractions.specs.SpanLaws.{Lies-Same, Lies_wider, Lies-whole, Lies-plus, Lies-minus, Lies-scale}
-use Rattle.row_numbers.specs.Exchanges.{ZoneOfRow, exchanged_of, without_core_of, without_any_of, external_of, outside_of}
-use Rattle.row_numbers.specs.ExchangeLaws.{external-outside}
+use Rattle.security.specs.Exchanges.{ZoneOfRow, exchanged_of, without_core_of, without_any_of, external_of}
+use Rattle.security.specs.ShorterForms.{outside_of}
+use Rattle.security.proofs.ExchangeLaws.{external-outside}
 use Rattle.reference_flows.specs.WithoutExchanges.{trillion, least_exchange, greatest_exchange, exchanges_span, counted_of, counted_positions, less_exchanges, HoldsWithoutCore, HoldsWithoutAny, HoldsExternal}
 
 -- one zone

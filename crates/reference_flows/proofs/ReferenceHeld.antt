@@ -14,8 +14,8 @@ use Rattle.grid_state.specs.GridState.{GridState, carries_at, IsSound}
 use Rattle.grid_laplacian.specs.Sizes.{supply_of}
 use Rattle.grid_laplacian.specs.Ranges.{IsOfGrid, IsInRange, exchanges_of, shifts_of}
 use Rattle.grid_laplacian.specs.Enclosures.{IsBarrier, EnclosesColumn}
-use Rattle.exact_flows.specs.Balances.{base_balance, reference_side}
-use Rattle.exact_flows.specs.Flows.{ExactAngles, AreAnglesOf, NumberedBranch, flow_of, in_watts, reference_flow_of}
+use Rattle.security.specs.Balances.{base_balance, reference_side}
+use Rattle.security.specs.Flows.{ExactAngles, AreAnglesOf, NumberedBranch, flow_of, in_watts, reference_flow_of}
 use Rattle.branch_spans.specs.FlowSpans.{flow_span_of, IsBranchOf}
 use Rattle.branch_spans.proofs.Held.{flow_held}
 use Rattle.zonal_factors.proofs.Scaled.{multiple, solves_times, flow_times, flow_cut}

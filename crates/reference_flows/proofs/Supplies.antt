@@ -14,7 +14,7 @@ use Rattle.fb_types.specs.declared.grid.Grid.{Grid}
 use Rattle.grid_state.specs.GridState.{GridState, classes_of, class_at, is_free, carries_at}
 use Rattle.grid_laplacian.specs.Sizes.{supply_of}
 use Rattle.grid_laplacian.specs.Ranges.{exchanges_of, shifts_of}
-use Rattle.exact_flows.specs.Balances.{of_class, fed_in, injection_at, shift_of, shifts_at, base_balance}
+use Rattle.security.specs.Balances.{of_class, fed_in, injection_at, shift_of, shifts_at, base_balance}
 use Rattle.exact_flows.proofs.Listed.{at_classes}
 use Rattle.zonal_factors.proofs.Supplies.{one_sum, classes_sum}
 

@@ -1,4 +1,5 @@
--- The span of the reference flow of a branch, in picowatts, from a barrier and the enclosed angles of the base balance.
+-- The span of the reference flow of a branch, in picowatts. Nobody need read this to know what a domain promises.
+-- It comes from a barrier and the enclosed angles of the base balance.
 use Rattle.std.specs.Prelude.{ℤ, pos, neg_ℤ, ◌+ℤ◌, ◌*ℤ◌, List, if◌then◌else◌}
 use Rattle.std.specs.Int.{int_max, int_min}
 use Rattle.whole_laws.specs.Quotients.{floor_of, ceil_of}
@@ -7,8 +8,8 @@ use Rattle.fb_types.specs.declared.grid.Branch.{Branch}
 use Rattle.fb_types.specs.declared.grid.Grid.{Grid}
 use Rattle.fb_types.specs.declared.rows.Angles.{Angles}
 use Rattle.grid_state.specs.GridState.{GridState, carries_at}
-use Rattle.exact_flows.specs.Balances.{base_balance}
-use Rattle.exact_flows.specs.Flows.{ExactAngles, AreAnglesOf, NumberedBranch, reference_flow_of}
+use Rattle.security.specs.Balances.{base_balance}
+use Rattle.security.specs.Flows.{ExactAngles, AreAnglesOf, NumberedBranch, reference_flow_of}
 use Rattle.branch_spans.specs.FlowSpans.{flow_span_of}
 use Rattle.reference_flows.specs.WithoutExchanges.{trillion}
 

@@ -1,12 +1,13 @@
--- The reference flow of a row without the exchanges of zones, as spans in picowatts. Factors are in 10^-12, and the net
--- positions of the zones at the reference in watts. (Core day-ahead capacity calculation methodology, ACER decision 02-2019, annex I.)
+-- The reference flow of a row without exchanges of zones, as spans. Nobody need read this to know what a domain promises.
+-- Spans are in picowatts, factors in 10^-12, and the net positions of the zones at the reference in watts. (Core day-ahead
+-- capacity calculation methodology, ACER decision 02-2019, annex I.)
 use Rattle.std.specs.Prelude.{◌≡◌, ℕ, ◌+◌, ℤ, pos, ◌-ℤ◌, ◌*ℤ◌, Bool, true, false, List, [], ◌∷◌, map, nat_abs}
 use Rattle.std.specs.Int.{int_max, int_min}
 use Rattle.std.specs.List.{zip}
 use Rattle.whole_laws.specs.Sums.{sum_over}
 use Rattle.fractions.specs.Fractions.{Fraction}
 use Rattle.fractions.specs.Spans.{LiesAt, EachLiesAt}
-use Rattle.row_numbers.specs.Exchanges.{ZoneOfRow, without_core_of, without_any_of, external_of}
+use Rattle.security.specs.Exchanges.{ZoneOfRow, without_core_of, without_any_of, external_of}
 
 -- the number of picowatts in a watt
 abbrev pub trillion : ℤ

@@ -1,7 +1,7 @@
 //! The reference flow of a row, and without the exchanges of zones: spans in picowatts that hold the exact flow.
 #![tactic(auto)]
 
-ghost use Rattle.std.specs.Prelude.{◌≡◌, ◌≤◌, ◌*◌, ◌+ℤ◌, nat_abs, length, true, false, IfOk};
+ghost use Rattle.std.specs.Prelude.{◌≡◌, ◌≤◌, ◌*◌, ◌+ℤ◌, nat_abs, length, true, false};
 ghost use Rattle.std.specs.List.{All};
 ghost use Rattle.whole_laws.specs.Sums.{IsWithin};
 ghost use Rattle.fb_span.specs.Ends.{EndsWithin};
@@ -166,62 +166,4 @@ pub fn external(
         positions.as_slice(),
         core.as_slice(),
     )
-}
-
-#[cfg(test)]
-mod tests {
-    use super::*;
-    use std::alloc::{AllocError, Global};
-
-    /// The spans of the factors of three zones.
-    fn factors(alloc: Global) -> Result<Items<Span<i128>>, AllocError>
-        ensures count { IfOk result (λ items. length items ≡ 3) }
-        ensures factors_in { IfOk result (λ items. All (EndsWithin 1_000_000_000_000) items) }
-    {
-        let mut items = Items::new(alloc);
-        items.add(Span::between(10, 12))?;
-        items.add(Span::between(20, 21))?;
-        items.add(Span::between(-4, -4))?;
-        Ok(items)
-    }
-
-    /// Their net positions.
-    fn positions(alloc: Global) -> Result<Items<i64>, AllocError>
-        ensures count { IfOk result (λ items. length items ≡ 3) }
-        ensures positions_in { IfOk result (λ items. sizes_of items ≤ 1_000_000_000_000) }
-    {
-        let mut items = Items::new(alloc);
-        items.add(2)?;
-        items.add(-3)?;
-        items.add(5)?;
-        Ok(items)
-    }
-
-    /// The first two are of Core.
-    fn core(alloc: Global) -> Result<Items<bool>, AllocError>
-        ensures count { IfOk result (λ items. length items ≡ 3) }
-    {
-        let mut items = Items::new(alloc);
-        items.add(true)?;
-        items.add(true)?;
-        items.add(false)?;
-        Ok(items)
-    }
-
-    #[test]
-    fn flows_of_three_zones(rt: HostRuntime) -> Result<(), AllocError> {
-        let reference = Span::between(1000, 1010);
-        let factors = factors(rt.alloc())?;
-        let positions = positions(rt.alloc())?;
-        let core = core(rt.alloc())?;
-        // The exchanges are from 20 to 24, from −63 to −60, and −20.
-        let f0core = without_core(reference, &factors, &positions, &core);
-        assert_eq!(rt; f0core, Span::between(1036, 1053));
-        assert_eq!(rt;
-            without_any(reference, &factors, &positions),
-            Span::between(1056, 1073)
-        );
-        assert_eq!(rt; external(&factors, &positions, &core), Span::exactly(-20));
-        Ok(())
-    }
 }

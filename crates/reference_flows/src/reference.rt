@@ -8,7 +8,7 @@ ghost use Rattle.fb_span.specs.Ends.{EndsWithin};
 ghost use Rattle.grid_state.specs.GridState.{carries_at};
 ghost use Rattle.grid_laplacian.specs.Ranges.{IsOfGrid, IsInRange};
 ghost use Rattle.grid_laplacian.specs.Enclosures.{IsBarrier, EnclosesColumn};
-ghost use Rattle.exact_flows.specs.Balances.{reference_side};
+ghost use Rattle.security.specs.Balances.{reference_side};
 ghost use Rattle.branch_spans.specs.FlowSpans.{ForBranch};
 ghost use Rattle.reference_flows.specs.ReferenceSpans.{greatest_flow, carried_span_of, reference_span_of, HoldsReference};
 

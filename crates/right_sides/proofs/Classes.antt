@@ -15,7 +15,7 @@ use Rattle.fb_types.specs.declared.grid.Grid.{Grid}
 use Rattle.fb_types.specs.declared.keys.Weight.{Weight}
 use Rattle.grid_state.specs.GridState.{GridState, classes_of, class_at, carries_at}
 use Rattle.grid_state.specs.Split.{injection_of}
-use Rattle.exact_flows.specs.Balances.{for_classes, of_class, fed_in, injection_at, shift_of, shifts_at}
+use Rattle.security.specs.Balances.{for_classes, of_class, fed_in, injection_at, shift_of, shifts_at}
 use Rattle.exact_flows.proofs.Listed.{at_classes, length_classes}
 use Rattle.right_sides.specs.Raised.{IsRaised, only_at, weights_at}
 use Rattle.right_sides.proofs.Adding.{raised_none, raised_same, raised_twice}

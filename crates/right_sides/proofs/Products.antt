@@ -11,7 +11,7 @@ use Rattle.fb_types.specs.declared.grid.Branch.{Branch}
 use Rattle.fb_types.specs.declared.keys.Weight.{Weight}
 use Rattle.fb_types.specs.declared.keys.Block.{Block}
 use Rattle.grid_state.specs.GridState.{GridState, classes_of, class_at}
-use Rattle.exact_flows.specs.Balances.{of_class, shift_of}
+use Rattle.security.specs.Balances.{of_class, shift_of}
 use Rattle.zonal_factors.specs.FactorSpans.{IsBlock}
 use Rattle.right_sides.specs.Raised.{IsRaised, only_at, weights_at}
 use Rattle.right_sides.proofs.Adding.{only_here}

@@ -7,7 +7,7 @@ use Rattle.whole_laws.specs.Sums.{at}
 use Rattle.fb_types.specs.declared.grid.Grid.{Grid}
 use Rattle.fb_types.specs.declared.keys.Block.{Block}
 use Rattle.grid_state.specs.GridState.{GridState, classes_of}
-use Rattle.exact_flows.specs.Balances.{of_class, injection_at, shifts_at, weight_at, reference_side, block_side}
+use Rattle.security.specs.Balances.{of_class, injection_at, shifts_at, weight_at, reference_side, block_side}
 use Rattle.right_sides.specs.Raised.{IsRaised}
 use Rattle.right_sides.proofs.Classes.{listed}
 

@@ -17,7 +17,7 @@ use Rattle.grid_state.specs.GridState.{GridState, classes_of, class_at, carries_
 use Rattle.grid_laplacian.specs.Sizes.{size_of}
 use Rattle.grid_laplacian.specs.Ranges.{exchanges_of, shifts_of}
 use Rattle.grid_laplacian.proofs.LawProofs.{total_of_list}
-use Rattle.exact_flows.specs.Balances.{of_class, fed_in, injection_at, shift_of, shifts_at, weight_at}
+use Rattle.security.specs.Balances.{of_class, fed_in, injection_at, shift_of, shifts_at, weight_at}
 use Rattle.zonal_factors.specs.FactorSpans.{IsBlock}
 use Rattle.zonal_factors.proofs.Supplies.{one_sum, classes_sum}
 use Rattle.right_sides.specs.Raised.{weights_at}

@@ -8,7 +8,7 @@ ghost use Rattle.grid_state.specs.GridState.{classes_of};
 ghost use Rattle.grid_state.specs.Split.{injection_of};
 ghost use Rattle.grid_laplacian.specs.Ranges.{IsOfGrid, IsInRange};
 ghost use Rattle.grid_laplacian.specs.Sizes.{size_of};
-ghost use Rattle.exact_flows.specs.Balances.{of_class, injection_at, shift_of, shifts_at, weight_at, reference_side, block_side};
+ghost use Rattle.security.specs.Balances.{of_class, injection_at, shift_of, shifts_at, weight_at, reference_side, block_side};
 ghost use Rattle.zonal_factors.specs.FactorSpans.{IsBlock};
 ghost use Rattle.right_sides.specs.Raised.{IsRaised, only_at};
 
@@ -149,6 +149,3 @@ pub fn block_side(alloc: Global, state: &State, block: &Block) -> Result<Items<i
     add_weights(&mut sums, state, block);
     Ok(Items::from_vec(sums))
 }
-
-#[cfg(test)]
-mod tests;

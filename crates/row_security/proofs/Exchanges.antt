@@ -1,5 +1,5 @@
 -- The exact flow at a point is the flow without exchanges of Core and what the factors make of the net positions.
-use Rattle.std.proofs.Common.{◌≡◌, suc, Bool, true, false, cond, ℤ, negsuc, ◌+ℤ◌, ◌-ℤ◌, ◌*ℤ◌, List, [], ◌∷◌, length, map, get_or, refl, sym, ap, ◌∙◌, arith}
+use Rattle.std.proofs.Common.{◌≡◌, suc, Bool, true, false, cond, ℤ, negsuc, ◌+ℤ◌, ◌-ℤ◌, ◌*ℤ◌, List, [], ◌∷◌, length, map, get_or, refl, sym, ap, subst, ◌∙◌, arith}
 use Rattle.std.specs.Prelude.{All}
 use Rattle.std.specs.List.{filter, zip}
 use Rattle.std.proofs.lemmas.List.Elements.{All-head, All-tail, All-cons, All-nil}
@@ -9,12 +9,15 @@ use Rattle.fractions.specs.FractionLaws.{Same_refl, Same_sym, Same_trans, Same-p
 use Rattle.fractions.specs.TotalLaws.{Same-total, total-times}
 use Rattle.fb_types.specs.declared.grid.Grid.{Grid}
 use Rattle.grid_state.specs.GridState.{GridState, IsSound}
-use Rattle.row_numbers.specs.Exchanges.{ZoneOfRow, exchanged_of}
-use Rattle.row_numbers.specs.MarginLaws.{ram-top}
-use Rattle.exact_flows.specs.Flows.{AreAnglesOfKey, reference_flow_of, factor_of, SolvedExchange}
+use Rattle.security.specs.Exchanges.{ZoneOfRow, exchanged_of}
+use Rattle.security.proofs.MarginLaws.{ram-top}
+use Rattle.security.specs.Balances.{Exchange, balance_with}
+use Rattle.security.specs.Flows.{ExactAngles, AreAnglesFor, AreAnglesOfKey, reference_flow_of, factor_of}
+use Rattle.exact_flows.specs.AddedFlows.{SolvedExchange}
 use Rattle.exact_flows.proofs.Assembly.{superposition}
-use Rattle.domain_rows.specs.Brackets.{IsInBox, exchanged_at}
-use Rattle.row_security.specs.Rows.{Row, KeyedZone, SolvedZone, Choice, IsChoice, row_factor_of, seen_by, f0core_of, fuaf_of, top_of_row, ram_of_row, core_of, core_factors_of, exchange_with, exchanges_at, PointChoice, row_flow_at}
+use Rattle.security.specs.Points.{IsInBox, exchange_of, exchanges_at, AreAnglesAt, row_flow_at}
+use Rattle.domain_rows.specs.Brackets.{exchanged_at}
+use Rattle.security.specs.Rows.{Row, KeyedZone, SolvedZone, Choice, IsChoice, row_factor_of, seen_by, f0core_of, fuaf_of, top_of_row, ram_of_row, core_of, core_factors_of}
 use Rattle.row_security.specs.Laws.{HeldRowsAreBracketed}
 
 -- ---- lists
@@ -43,6 +46,31 @@ All-filter P test (x ∷ xs) h = by_test (test x) (All-filter P test xs (All-tai
     by_test : (b : Bool) → All P (filter test xs) → All P (cond b (x ∷ filter test xs) (filter test xs))
     by_test true later = All-cons P x (filter test xs) (All-head P x xs h) later
     by_test false later = later
+
+-- the Core zones with their positions, and angles for their blocks
+abbrev exchange_with : SolvedZone × ℤ → SolvedExchange
+exchange_with e = record { exchange = exchange_of (e.0.zone, e.1); blocks = e.0.blocks }
+
+core_zones : (zones : List SolvedZone) → filter (λ (z : KeyedZone). z.is_core) (map (λ (z : SolvedZone). z.zone) zones) ≡ map (λ (z : SolvedZone). z.zone) (core_of zones)
+core_zones [] = refl
+core_zones (z ∷ zs) = by_test z.zone.is_core (core_zones zs)
+  where
+    by_test : (b : Bool) → filter (λ (y : KeyedZone). y.is_core) (map (λ (y : SolvedZone). y.zone) zs) ≡ map (λ (y : SolvedZone). y.zone) (core_of zs) → cond b (z.zone ∷ filter (λ (y : KeyedZone). y.is_core) (map (λ (y : SolvedZone). y.zone) zs)) (filter (λ (y : KeyedZone). y.is_core) (map (λ (y : SolvedZone). y.zone) zs)) ≡ map (λ (y : SolvedZone). y.zone) (cond b (z ∷ core_of zs) (core_of zs))
+    by_test true later = ap (λ (ys : List KeyedZone). z.zone ∷ ys) later
+    by_test false later = later
+
+zipped : (zones : List SolvedZone) (x : List ℤ) → map exchange_of (zip (map (λ (z : SolvedZone). z.zone) zones) x) ≡ map (λ (e : SolvedExchange). e.exchange) (map exchange_with (zip zones x))
+zipped [] x = refl
+zipped (z ∷ zs) [] = refl
+zipped (z ∷ zs) (x ∷ xs) = ap (λ (es : List Exchange). exchange_of (z.zone, x) ∷ es) (zipped zs xs)
+
+-- the exchanges of the zones are those with the angles that are chosen
+same_exchanges : (s : GridState) (grid : Grid) (zones : List KeyedZone) (choice : Choice) → IsChoice s grid zones choice → (x : List ℤ)
+    → exchanges_at zones x ≡ map (λ (e : SolvedExchange). e.exchange) (map exchange_with (zip (core_of choice.zones) x))
+same_exchanges s grid zones choice ok x =
+    ap (λ (zs : List KeyedZone). exchanges_at zs x) (sym ok.same_zones)
+    ∙ ap (λ (zs : List KeyedZone). map exchange_of (zip zs x)) (core_zones choice.zones)
+    ∙ zipped (core_of choice.zones) x
 
 solved_exchanges : (s : GridState) (zones : List SolvedZone) (x : List ℤ) → All (λ z. AreAnglesOfKey s z.zone.key z.blocks) zones
     → All (λ z. AreAnglesOfKey s z.exchange.key z.blocks) (map exchange_with (zip zones x))
@@ -89,13 +117,14 @@ regrouped r x y = record { same = step r.num r.den x.num x.den y.num y.den }
 -- ---- the flow at a point
 
 flow_is : (s : GridState) → IsSound s → (grid : Grid) (zones : List KeyedZone) (row : Row) (choice : Choice) → IsChoice s grid zones choice → (x : List ℤ) → length x ≡ length (core_of choice.zones)
-    → (point : PointChoice s grid choice.zones x)
-    → Same (row_flow_at s row point.multiple point.angles) (plus (f0core_of s row choice) (exchanged_at (core_factors_of s row choice) x))
-flow_is s sound grid zones row choice ok x len point =
+    → (e : ExactAngles) → AreAnglesAt s grid zones x e
+    → Same (row_flow_at s row e) (plus (f0core_of s row choice) (exchanged_at (core_factors_of s row choice) x))
+flow_is s sound grid zones row choice ok x len e at_x =
     let core = core_of choice.zones in
-    let all = exchanges_at choice.zones x in
-    let law = superposition s sound grid row.branch all choice.reference point.angles point.multiple point.balance ok.reference
-    (solved_exchanges s core x (All-filter (λ z. AreAnglesOfKey s z.zone.key z.blocks) (λ z. z.zone.is_core) choice.zones ok.blocks)) point.scaled point.solved in
+    let all = map exchange_with (zip core x) in
+    let at_all = subst (λ (es : List Exchange). AreAnglesFor s (balance_with s grid es) e) (same_exchanges s grid zones choice ok x) at_x in
+    let law = superposition s sound grid row.branch all choice.reference e ok.reference
+    (solved_exchanges s core x (All-filter (λ z. AreAnglesOfKey s z.zone.key z.blocks) (λ z. z.zone.is_core) choice.zones ok.blocks)) at_all in
     let reference = reference_flow_of s row.branch choice.reference in
     Same_trans (Same-times row.direction law)
     (Same_trans (times-plus row.direction reference (total (λ (e : SolvedExchange). times (e.exchange.position -ℤ e.exchange.reference) (factor_of s row.branch e.exchange.key e.blocks)) all))
@@ -109,15 +138,15 @@ flow_is s sound grid zones row choice ok x len point =
 
 pub held_rows_are_bracketed : (s : GridState) → IsSound s → (grid : Grid) → HeldRowsAreBracketed s grid
 held_rows_are_bracketed s sound grid zones row factors ram bounds a r_in r_out as_many holds brackets = record {
-  inner = λ choice ok x box point meets.
+  inner = λ choice ok x box e at_x meets.
       let len = long choice ok x box in
-      let flow = flow_is s sound grid zones row choice ok x len point in
+      let flow = flow_is s sound grid zones row choice ok x len e at_x in
       let within = brackets.inner (core_factors_of s row choice) (ram_of_row s row choice) x (holds.core_factors choice ok) (holds.margin choice ok) box meets in
       AtMost_trans (AtMost-Same flow) (from_minus (f0core_of s row choice) (exchanged_at (core_factors_of s row choice) x) (top_of_row s row choice)
       (AtMost_trans within (AtMost-Same (ram-top row.numbers (f0core_of s row choice) (fuaf_of s row choice)))));
-  outer = λ choice ok x box point kept.
+  outer = λ choice ok x box e at_x kept.
       let len = long choice ok x box in
-      let flow = flow_is s sound grid zones row choice ok x len point in
+      let flow = flow_is s sound grid zones row choice ok x len e at_x in
       brackets.outer (core_factors_of s row choice) (ram_of_row s row choice) x (holds.core_factors choice ok) (holds.margin choice ok) box
       (AtMost_trans (to_minus (f0core_of s row choice) (exchanged_at (core_factors_of s row choice) x) (top_of_row s row choice) (AtMost_trans (AtMost-Same (Same_sym flow)) kept))
       (AtMost-Same (Same_sym (ram-top row.numbers (f0core_of s row choice) (fuaf_of s row choice)))));

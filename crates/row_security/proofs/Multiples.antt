@@ -5,13 +5,13 @@ use Rattle.std.specs.List.{range_with_len}
 use Rattle.std.proofs.lemmas.Int.{ints}
 use Rattle.whole_laws.specs.Ring.{ring, mul-positive}
 use Rattle.whole_laws.specs.Sums.{at}
-use Rattle.fractions.specs.Fractions.{Fraction, whole, plus, times, total}
+use Rattle.fractions.specs.Fractions.{Fraction, Same, whole, plus, times, total}
 use Rattle.fb_types.specs.declared.grid.Grid.{Grid}
 use Rattle.fb_types.specs.declared.keys.Block.{Block}
-use Rattle.grid_state.specs.GridState.{GridState, class_at}
-use Rattle.exact_flows.specs.Quotients.{divisor_of, divisor-positive, divided}
-use Rattle.exact_flows.specs.Balances.{for_classes, injection_at, shifts_at, weight_at, key_at, Exchange, injection_with, balance_with, IsBalanceTimes}
-use Rattle.exact_flows.proofs.Listed.{at_classes, length_classes}
+use Rattle.grid_state.specs.GridState.{GridState, classes_of, class_at}
+use Rattle.security.specs.Quotients.{divisor_of, divisor-positive, divided}
+use Rattle.security.specs.Balances.{for_classes, injection_at, shifts_at, weight_at, key_at, Exchange, injection_with, balance_with}
+use Rattle.exact_flows.proofs.Listed.{at_classes}
 
 -- ---- fractions that are whole once they are multiplied
 
@@ -147,6 +147,11 @@ natural_of (pos zero) h = absurd (omega (arith, ints))
 natural_of (pos (suc n)) h = record { natural = suc n; positive = omega arith; same = refl }
 natural_of (negsuc n) h = absurd (omega (arith, ints))
 
+-- p is q times the balance of each class
+pub record IsBalanceTimes (s : GridState) (grid : Grid) (zones : List Exchange) (q : ℕ) (p : List ℤ) : Type 0 where
+  pub positive : 0 < q
+  pub scaled : (c : ℕ) → c < classes_of s → Same (divided (whole (at p c)) (pos q)) (balance_with s grid zones c)
+
 -- a number that makes the balance of each class whole, and that many times the balances
 pub record Multiple (s : GridState) (grid : Grid) (zones : List Exchange) : Type 0 where
   pub multiple : ℕ
@@ -159,7 +164,6 @@ some_multiple s grid zones = record {
   balance = for_classes s numbers;
   scaled = record {
     positive = q.positive;
-    each_class = length_classes s numbers;
     scaled = λ c below. let whole_at = whole_balance s grid zones c in
         record {
           same = step (at (for_classes s numbers) c) (numbers c) (balance_with s grid zones c).den (balance_with s grid zones c).num (product_of_zones zones) (divisor_of (pos q.natural))

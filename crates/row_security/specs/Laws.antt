@@ -1,4 +1,4 @@
--- What makes a row bracket the exact flow.
+-- The law on what makes a row bracket the exact flow. Nobody need read this to know what a domain promises: it is proved of it.
 use Rattle.std.specs.Prelude.{◌≡◌, ℤ, List, length}
 use Rattle.std.specs.List.{filter}
 use Rattle.fractions.specs.Spans.{LiesAt, EachLiesAt}
@@ -6,7 +6,8 @@ use Rattle.fb_types.specs.declared.grid.Grid.{Grid}
 use Rattle.fb_types.specs.declared.rows.Bounds.{Bounds}
 use Rattle.grid_state.specs.GridState.{GridState}
 use Rattle.domain_rows.specs.Brackets.{trillion, Brackets}
-use Rattle.row_security.specs.Rows.{Row, KeyedZone, Choice, IsChoice, core_factors_of, ram_of_row, IsBracketed}
+use Rattle.security.specs.Rows.{Row, KeyedZone, Choice, IsChoice, core_factors_of, ram_of_row}
+use Rattle.security.specs.Capacity.{IsBracketed}
 
 -- the spans hold the factors of the Core zones, in 10^-12, and the margin, in picowatts, whatever exact angles are chosen
 pub record HoldsRow (s : GridState) (grid : Grid) (zones : List KeyedZone) (row : Row) (factors : List (ℤ × ℤ)) (ram : ℤ × ℤ) : Type 0 where

@@ -1,3 +1,4 @@
+-- Laws, which are proved: nobody need believe them.
 -- A run is refused for one cause, and for none where its inputs are whole. Want of memory is no cause.
 use Rattle.std.proofs.Common.{◌≡◌, ◌⊎◌, ℕ, ◌<◌, List, Option, Some, None, All, slice_get, inl, inr, refl, sym, ap, subst, ◌∙◌}
 use Rattle.std.specs.List.{AllZip}

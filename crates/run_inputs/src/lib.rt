@@ -9,6 +9,3 @@ mod states;
 
 pub use assembly::run_inputs;
 pub use fault::InputsError;
-
-#[cfg(test)]
-mod tests;

@@ -15,9 +15,9 @@ use Rattle.grid_state.specs.GridState.{GridState, carries_at, IsSound}
 use Rattle.grid_laplacian.specs.Ranges.{IsOfGrid}
 use Rattle.grid_laplacian.specs.Enclosures.{IsBarrier, EnclosesColumn}
 use Rattle.grid_laplacian.proofs.LawProofs.{existence_holds}
-use Rattle.exact_flows.specs.Quotients.{divisor_of, divided}
-use Rattle.exact_flows.specs.Balances.{block_weights, block_side}
-use Rattle.exact_flows.specs.Flows.{ExactAngles, AreAnglesOf, NumberedBranch, flow_of}
+use Rattle.security.specs.Quotients.{divisor_of, divided}
+use Rattle.security.specs.Balances.{block_weights, block_side}
+use Rattle.security.specs.Flows.{ExactAngles, AreAnglesOf, NumberedBranch, flow_of}
 use Rattle.branch_spans.specs.FlowSpans.{flow_span_of, IsBranchOf}
 use Rattle.branch_spans.proofs.Held.{flow_held}
 use Rattle.zonal_factors.specs.FactorSpans.{trillion, block_span_of, IsBlock}

@@ -15,8 +15,8 @@ use Rattle.grid_laplacian.specs.Laws.{drop_over}
 use Rattle.grid_laplacian.specs.Sizes.{supply_of}
 use Rattle.grid_laplacian.specs.Ranges.{IsOfGrid}
 use Rattle.grid_laplacian.proofs.LawProofs.{cut_holds}
-use Rattle.exact_flows.specs.Quotients.{divisor_of, divided}
-use Rattle.exact_flows.specs.Flows.{ExactAngles, AreAnglesOf, NumberedBranch, flow_of}
+use Rattle.security.specs.Quotients.{divisor_of, divided}
+use Rattle.security.specs.Flows.{ExactAngles, AreAnglesOf, NumberedBranch, flow_of}
 use Rattle.exact_flows.proofs.Listed.{class_below}
 use Rattle.branch_spans.specs.FlowSpans.{IsBranchOf}
 use Rattle.branch_spans.proofs.Branches.{in_range, in_row}

@@ -11,7 +11,7 @@ use Rattle.fb_types.specs.declared.keys.Weight.{Weight}
 use Rattle.fb_types.specs.declared.keys.Block.{Block}
 use Rattle.grid_state.specs.GridState.{GridState, classes_of, class_at, is_free}
 use Rattle.grid_laplacian.specs.Sizes.{supply_of}
-use Rattle.exact_flows.specs.Balances.{of_class, weight_at, block_weights}
+use Rattle.security.specs.Balances.{of_class, weight_at, block_weights}
 use Rattle.exact_flows.proofs.Listed.{at_classes}
 use Rattle.zonal_factors.specs.FactorSpans.{IsBlock}
 

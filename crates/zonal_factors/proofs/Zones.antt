@@ -23,9 +23,9 @@ use Rattle.fb_types.specs.declared.rows.Angles.{Angles}
 use Rattle.grid_state.specs.GridState.{GridState, class_at, carries_at, IsSound}
 use Rattle.grid_laplacian.specs.Ranges.{IsOfGrid}
 use Rattle.grid_laplacian.specs.Enclosures.{IsBarrier, EnclosesColumn}
-use Rattle.exact_flows.specs.Quotients.{divisor_of, divisor-positive, divided}
-use Rattle.exact_flows.specs.Balances.{block_weights, block_side}
-use Rattle.exact_flows.specs.Flows.{ExactAngles, AreAnglesOf, NumberedBranch, flow_of, factor_of, AreAnglesOfKey}
+use Rattle.security.specs.Quotients.{divisor_of, divisor-positive, divided}
+use Rattle.security.specs.Balances.{block_weights, block_side}
+use Rattle.security.specs.Flows.{ExactAngles, AreAnglesOf, NumberedBranch, flow_of, factor_of, AreAnglesOfKey}
 use Rattle.branch_spans.specs.FlowSpans.{IsBranchOf}
 use Rattle.zonal_factors.specs.FactorSpans.{trillion, share_span_of, zone_span_of, IsBlock, IsKey, EnclosesKey, SharedWithin}
 use Rattle.zonal_factors.proofs.Held.{part_of, block_held}

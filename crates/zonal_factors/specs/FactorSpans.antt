@@ -1,4 +1,5 @@
--- The span of a zonal factor, in 10^-12, from a barrier and the enclosed angles of the blocks of the zone's shift key.
+-- The span of a zonal factor, in 10^-12. Nobody need read this to know what a domain promises.
+-- It comes from a barrier and the enclosed angles of the blocks of the zone's shift key.
 use Rattle.std.specs.Prelude.{◌≡◌, ℕ, ◌<◌, ℤ, pos, neg_ℤ, ◌*ℤ◌, ◌≤ℤ◌, List, take, drop, length, All, if◌then◌else◌}
 use Rattle.std.specs.Int.{int_max, int_min}
 use Rattle.std.specs.List.{AllZip, zip}
@@ -10,8 +11,8 @@ use Rattle.fb_types.specs.declared.keys.Column.{Column}
 use Rattle.fb_types.specs.declared.rows.Angles.{Angles}
 use Rattle.grid_state.specs.GridState.{GridState, carries_at}
 use Rattle.grid_laplacian.specs.Enclosures.{EnclosesColumn}
-use Rattle.exact_flows.specs.Balances.{block_side}
-use Rattle.exact_flows.specs.Flows.{ExactAngles, NumberedBranch, factor_of, AreAnglesOfKey}
+use Rattle.security.specs.Balances.{block_side}
+use Rattle.security.specs.Flows.{ExactAngles, NumberedBranch, factor_of, AreAnglesOfKey}
 use Rattle.branch_spans.specs.FlowSpans.{flow_span_of}
 
 -- the number of 10^-12 in one

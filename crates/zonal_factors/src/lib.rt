@@ -10,7 +10,7 @@ ghost use Rattle.fb_span.specs.Ends.{EndsWithin};
 ghost use Rattle.grid_state.specs.GridState.{carries_at};
 ghost use Rattle.grid_laplacian.specs.Ranges.{IsOfGrid, IsInRange};
 ghost use Rattle.grid_laplacian.specs.Enclosures.{IsBarrier, EnclosesColumn};
-ghost use Rattle.exact_flows.specs.Balances.{block_side};
+ghost use Rattle.security.specs.Balances.{block_side};
 ghost use Rattle.branch_spans.specs.FlowSpans.{ForBranch};
 ghost use Rattle.zonal_factors.specs.FactorSpans.{trillion, block_span_of, share_span_of, zone_span_of, factor_span_of, IsBlock, IsKey, EnclosesKey, HoldsFactor, SharedWithin};
 

@@ -3,7 +3,7 @@ use Rattle.std.proofs.lemmas.Int.{to_z-of_z}
 use Rattle.whole_laws.specs.Sums.{IsWithin}
 use Rattle.fb_types.specs.declared.grid.Branch.{Branch}
 use Rattle.grid_state.specs.GridState.{carries_at}
-use Rattle.exact_flows.specs.Flows.{NumberedBranch}
+use Rattle.security.specs.Flows.{NumberedBranch}
 use Rattle.branch_spans.specs.FlowSpans.{flow_span_of, HoldsFlow}
 use Rattle.branch_spans.proofs.Branches.{in_range}
 use Rattle.branch_spans.proofs.Sizes.{flow_within}

@@ -1,7 +1,8 @@
 use Rattle.std.proofs.Common.{◌∙◌, ap, ap₂, FitsSigned, w64, rules, rules}
 use mir.Syntax.{w128}
 use Rattle.std.proofs.lemmas.Int.{to_z-of_z}
-use Rattle.ram_formulas.specs.MarginSpans.{numbers_of, margin_at}
+use Rattle.security.specs.Margins.{numbers_of}
+use Rattle.ram_formulas.specs.MarginSpans.{margin_at}
 use Rattle.ram_formulas.proofs.MarginProofs.{margin_falls, margin_held}
 use Rattle.ram_formulas.proofs.ram.Goals as goal
 

@@ -1,6 +1,6 @@
 use Rattle.std.proofs.Common.{◌*◌, ◌^◌, pos, ◌*ℤ◌, All}
 use Rattle.whole_laws.specs.Sums.{IsWithin}
-use Rattle.exact_flows.specs.Balances.{injection_at}
+use Rattle.security.specs.Balances.{injection_at}
 use Rattle.right_sides.specs.Raised.{IsRaised}
 use Rattle.right_sides.proofs.Classes.{of_first}
 use Rattle.right_sides.proofs.add_powers.Given as goal

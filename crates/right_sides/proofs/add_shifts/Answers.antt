@@ -1,7 +1,7 @@
 use Rattle.std.proofs.Common.{◌+◌, ◌*◌, ◌^◌, pos, ◌*ℤ◌, length, ap, sym, ◌∙◌, arith}
 use Rattle.grid_laplacian.proofs.Shifts.{same_length}
-use Rattle.exact_flows.specs.Balances.{shift_of}
-use Rattle.exact_flows.specs.Flows.{NumberedBranch}
+use Rattle.security.specs.Balances.{shift_of}
+use Rattle.security.specs.Flows.{NumberedBranch}
 use Rattle.branch_spans.proofs.Branches.{in_range}
 use Rattle.branch_spans.proofs.Held.{stands_in}
 use Rattle.right_sides.proofs.Adding.{raised_within, wider}

@@ -2,7 +2,7 @@ use Rattle.std.proofs.Common.{◌<◌, pos, List, length, get_or, All, FitsSigne
 use mir.Syntax.{w64}
 use Rattle.std.proofs.lemmas.List.{take_all}
 use Rattle.fb_types.specs.declared.keys.Weight.{Weight}
-use Rattle.exact_flows.specs.Balances.{of_class}
+use Rattle.security.specs.Balances.{of_class}
 use Rattle.exact_flows.proofs.Listed.{class_below}
 use Rattle.right_sides.specs.Raised.{IsRaised, weights_at}
 use Rattle.right_sides.proofs.Classes.{weight_next, weights_none}

@@ -1,5 +1,5 @@
 use Rattle.std.proofs.Common.{◌^◌, pos, ◌*ℤ◌, take}
-use Rattle.exact_flows.specs.Balances.{of_class}
+use Rattle.security.specs.Balances.{of_class}
 use Rattle.right_sides.specs.Raised.{IsRaised, weights_at}
 use Rattle.right_sides.proofs.add_weights.Given as goal
 

@@ -1,7 +1,7 @@
 use Rattle.std.proofs.Common.{ℤ, neg_ℤ, ◌≤ℤ◌, refl, sym, ap, subst, ◌∙◌, FitsSigned, w64, rules}
 use Rattle.std.specs.Int.{int_max, int_min}
 use Rattle.std.proofs.lemmas.Int.{to_z-of_z}
-use Rattle.exact_flows.specs.Flows.{NumberedBranch}
+use Rattle.security.specs.Flows.{NumberedBranch}
 use Rattle.branch_spans.specs.FlowSpans.{IsBranchOf}
 use Rattle.zonal_factors.specs.FactorSpans.{trillion}
 use Rattle.zonal_factors.proofs.Held.{some_branch, clipped_ordered, quotient_is}

@@ -4,7 +4,7 @@ use Rattle.std.proofs.lemmas.Bool.{cond-true}
 use Rattle.fractions.specs.Spans.{LiesAt}
 use Rattle.grid_state.specs.GridState.{carries_at}
 use Rattle.grid_state.specs.StateLaws.{length-carries}
-use Rattle.exact_flows.specs.Flows.{factor_of}
+use Rattle.security.specs.Flows.{factor_of}
 use Rattle.zonal_factors.specs.FactorSpans.{trillion, zone_span_of, angles_from}
 use Rattle.zonal_factors.proofs.Zones.{own_angles, zero_lies, no_blocks, no_flow, zone_held, some_blocks, none_blocks}
 use Rattle.zonal_factors.proofs.factor_span.Goals as goal

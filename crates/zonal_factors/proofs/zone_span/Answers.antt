@@ -6,7 +6,7 @@ use Rattle.fb_span.specs.Ends.{EndsWithin}
 use Rattle.fb_types.specs.declared.keys.Block.{Block}
 use Rattle.fb_types.specs.declared.rows.Angles.{Angles}
 use Rattle.grid_laplacian.specs.Enclosures.{EnclosesColumn}
-use Rattle.exact_flows.specs.Balances.{block_side}
+use Rattle.security.specs.Balances.{block_side}
 use Rattle.zonal_factors.specs.FactorSpans.{share_span_of}
 use Rattle.zonal_factors.proofs.Zones.{zip_get, zip_length, sum_more, sum_all, share_at, shares_taken, shared_within, zone_within, next_within}
 use Rattle.zonal_factors.proofs.zone_span.Goals as goal

@@ -6,11 +6,12 @@ use Rattle.fb_types.specs.declared.keys.Block.{Block}
 use Rattle.fb_types.specs.declared.keys.Column.{Column}
 use Rattle.fb_types.specs.declared.rows.Angles.{Angles}
 use Rattle.grid_laplacian.specs.Enclosures.{EnclosesColumn}
-use Rattle.exact_flows.specs.Balances.{block_side}
+use Rattle.security.specs.Balances.{block_side}
 use Rattle.zonal_factors.specs.FactorSpans.{IsKey}
-use Rattle.exact_flows.specs.Flows.{factor_of}
+use Rattle.security.specs.Flows.{factor_of}
 use Rattle.state_proofs.specs.StateProofs.{all_blocks}
-use Rattle.cnec_rows.specs.RowNumbers.{direction_of, directed, factors_from}
+use Rattle.security.specs.Rows.{direction_of}
+use Rattle.cnec_rows.specs.RowNumbers.{directed, factors_from}
 use Rattle.cnec_rows.specs.RowParts.{HoldsDirected, HoldFactors}
 use Rattle.cnec_rows.proofs.Columns.{count_more, factors_more, factors_all, own_angles, column_at}
 use Rattle.cnec_rows.proofs.Turned.{turned_lies, wider, turned_within, zip_more}

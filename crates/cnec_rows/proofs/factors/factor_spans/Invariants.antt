@@ -1,7 +1,8 @@
 use Rattle.std.proofs.Common.{◌≡◌, length, map, take, All}
 use Rattle.fb_span.specs.Ends.{EndsWithin}
 use Rattle.branch_spans.specs.FlowSpans.{ForBranch}
-use Rattle.cnec_rows.specs.RowNumbers.{direction_of, directed, factors_from}
+use Rattle.security.specs.Rows.{direction_of}
+use Rattle.cnec_rows.specs.RowNumbers.{directed, factors_from}
 use Rattle.cnec_rows.specs.RowParts.{HoldFactors}
 use Rattle.cnec_rows.proofs.Columns.{block_count}
 use Rattle.cnec_rows.proofs.factors.factor_spans.Given as goal

@@ -1,9 +1,9 @@
 use Rattle.std.proofs.Common.{sym, subst}
 use Rattle.fractions.specs.Spans.{LiesAt}
-use Rattle.exact_flows.specs.Flows.{reference_flow_of}
+use Rattle.security.specs.Flows.{reference_flow_of}
 use Rattle.fractions.specs.Fractions.{times}
 use Rattle.reference_flows.specs.WithoutExchanges.{trillion}
-use Rattle.cnec_rows.specs.RowNumbers.{direction_of}
+use Rattle.security.specs.Rows.{direction_of}
 use Rattle.cnec_rows.proofs.Turned.{turned_lies}
 use Rattle.cnec_rows.proofs.factors.reference_flow.Goals as goal
 

@@ -1,7 +1,8 @@
 use Rattle.std.proofs.Common.{◌≡◌, ◌<◌, ℤ, List, sym, ap, ap₂, subst, ◌∙◌}
 use Rattle.domain_rows.specs.Brackets.{Brackets}
 use Rattle.cnec_rows.specs.declared.types.RowSpans.{RowSpans}
-use Rattle.cnec_rows.specs.RowNumbers.{row_on, direction_of, of_core, factor_spans, spans_from, proof_from}
+use Rattle.security.specs.Rows.{direction_of}
+use Rattle.cnec_rows.specs.RowNumbers.{row_on, of_core, factor_spans, spans_from, proof_from}
 use Rattle.cnec_rows.specs.RowParts.{HoldsAlong}
 use Rattle.cnec_rows.proofs.Exact.{hold_numbers, right_row}
 use Rattle.cnec_rows.proofs.row.row_numbers.Goals as goal

@@ -6,7 +6,7 @@ use Rattle.state_proofs.specs.declared.StateProof.{StateProof}
 use Rattle.grid_laplacian.specs.Ranges.{IsOfGrid, IsInRange}
 use Rattle.cnec_rows.specs.RowNumbers.{AreRowZones}
 use Rattle.cnec_rows.specs.declared.types.RowZones.{RowZones}
-use Rattle.fb_certificate.specs.WholeLaws.{zip_get, zones_fit, state_of_grid, state_in_range}
+use Rattle.fb_certificate.proofs.WholeLaws.{zip_get, zones_fit, state_of_grid, state_in_range}
 use Rattle.fb_certificate.proofs.NumberLaws.{both_ok, terms_fit, branch_below, numbers_found, hold_found, right_found, state_stands, proof_below}
 use Rattle.fb_certificate.proofs.row.row_of.Goals as goal
 

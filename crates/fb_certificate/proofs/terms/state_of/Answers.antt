@@ -1,5 +1,5 @@
 use Rattle.std.proofs.Common.{ℕ, ◌≤◌, List, length, sym, subst}
-use Rattle.fb_certificate.specs.WholeLaws.{few_outages}
+use Rattle.fb_certificate.proofs.WholeLaws.{few_outages}
 use Rattle.fb_certificate.proofs.NumberLaws.{state_number_is, state_number_below}
 use Rattle.fb_certificate.proofs.terms.state_of.Goals as goal
 

@@ -1,4 +1,4 @@
-use Rattle.fbcc_core.proofs.Answered.{kept_caused, kept_usage, usage_kept, refuses, judges, completes}
+use Rattle.fbcc_core.proofs.Answered.{kept_caused, kept_usage, usage_kept, refuses, judges, completes, prints_capacity}
 use Rattle.fbcc_core.proofs.call.fbcc.Goals as goal
 
 pub returns-clause-usage : goal.returns-clause-usage
@@ -18,3 +18,6 @@ returns-clause-judges g c = judges _ _ _ _ (kept_caused _ _ _ _ _ c.tell-fault.e
 
 pub returns-clause-completes : goal.returns-clause-completes
 returns-clause-completes g c = completes _ _ _ _ (kept_caused _ _ _ _ _ c.tell-fault.ensures.kept c.answer_to-answer.ensures.caused)
+
+pub returns-clause-capacity : goal.returns-clause-capacity
+returns-clause-capacity g c = prints_capacity _ _ _ _ (kept_caused _ _ _ _ _ c.tell-fault.ensures.kept c.answer_to-answer.ensures.caused)

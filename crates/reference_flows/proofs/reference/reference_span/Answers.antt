@@ -7,7 +7,7 @@ use Rattle.fractions.specs.Spans.{LiesAt}
 use Rattle.fb_types.specs.declared.grid.Branch.{Branch}
 use Rattle.grid_state.specs.GridState.{carries_at}
 use Rattle.grid_state.specs.StateLaws.{length-carries}
-use Rattle.exact_flows.specs.Flows.{NumberedBranch, reference_flow_of}
+use Rattle.security.specs.Flows.{NumberedBranch, reference_flow_of}
 use Rattle.branch_spans.specs.FlowSpans.{flow_span_of}
 use Rattle.branch_spans.proofs.Branches.{in_range}
 use Rattle.branch_spans.proofs.Held.{stands_in, same_branch}

@@ -1,0 +1,26 @@
+-- What is promised of a domain that is printed.
+use Rattle.std.specs.Prelude.{◌≡◌, ℕ, List, Option, None, Ok}
+use Rattle.fb_certificate.specs.Capacity.{IsCapacity}
+use Rattle.fb_certificate.specs.Valid.{IsValid}
+use Rattle.fb_certificate.specs.declared.types.Inputs.{Inputs}
+use Rattle.fb_certificate.specs.declared.types.Certificate.{Certificate}
+use Rattle.domain_report.specs.DomainTexts.{domain_text}
+use Rattle.fbcc_core.specs.Causes.{Took}
+use Rattle.fbcc_core.specs.Commands.{domain_inputs}
+use Rattle.fbcc_core.specs.Seen.{ShelfSeen, SinkSeen}
+use Rattle.fbcc_core.specs.Words.{Asks}
+use Rattle.fbcc_core.specs.declared.answer.Fault.{Fault}
+use Rattle.fbcc_core.specs.declared.request.Command.TheVariants as command
+
+-- what was put is the table of a valid certificate that has the capacity theorem, for the inputs that the documents say
+pub record IsDomainPut (words : List (List ℕ)) (shelf : ShelfSeen) (out : SinkSeen) : Type 0 where
+  pub inputs : Inputs
+  pub said : domain_inputs words shelf (Ok inputs)
+  pub certificate : Certificate
+  pub valid : IsValid inputs certificate
+  pub capacity : IsCapacity inputs certificate
+  pub put : Took out (domain_text inputs certificate)
+
+-- where the words ask for a domain, and the answer is no fault
+abbrev pub PrintsCapacity : List (List ℕ) → ShelfSeen → SinkSeen → Option Fault → Type 0
+PrintsCapacity words shelf out answer = Asks words command.Domain → answer ≡ None → IsDomainPut words shelf out

@@ -1,0 +1,11 @@
+pub mod Quotients
+pub mod Balances
+pub mod Flows
+pub mod Exchanges
+pub mod Margins
+pub mod Spreads
+pub mod Rows
+pub mod Points
+pub mod Secure
+pub mod Capacity
+pub mod ShorterForms
