@@ -7,7 +7,7 @@ use Rattle.fb_json.specs.Tree.{length_of}
 use Rattle.fb_json.specs.declared.document.Got.{Got}
 use Rattle.fb_json.specs.declared.document.Got.TheVariants.{Absent, Wrong, Value}
 use Rattle.json_reading.specs.Place.{in_member}
-use Rattle.json_reading.specs.Reading.{At, Fault, ◌>>=◌, here_read, here, member, form_read, formed, given, optional, required, spot, array, array_if, optional_array, required_array}
+use Rattle.json_reading.specs.Reading.{At, Fault, ◌>>=◌, here_read, here, member, form_read, form_of, found_or_missing, optional, required, spot, array, array_if, optional_array, required_array}
 use Rattle.json_reading.proofs.Kept.{bind_ok, required_array_few}
 
 member_there : {K : Type 0} (name : List ℕ) (at there : At K) → spot name at ≡ Ok (Some there) → member name at ≡ Ok (Some there.tree)
@@ -31,14 +31,14 @@ got_ok at (Value m) n e = cc
 length_there : {K : Type 0} (name : List ℕ) (at there : At K) (n : ℕ) → spot name at ≡ Ok (Some there) → here length_of there ≡ Ok n → required length_of name at ≡ Ok n
 unfolding required optional here
 length_there {K} name at there n e h =
-    ap (λ (r : Result (Option Data) (Fault K)). (r >>= λ found. formed length_of name at found) >>= λ found. given name at found) (member_there name at there e)
-    ∙ ap (λ (g : Got ℕ). form_read name at g >>= λ found. given name at found) (got_ok there (length_of there.tree) n h)
+    ap (λ (r : Result (Option Data) (Fault K)). (r >>= λ found. form_of length_of name at found) >>= λ found. found_or_missing name at found) (member_there name at there e)
+    ∙ ap (λ (g : Got ℕ). form_read name at g >>= λ found. found_or_missing name at found) (got_ok there (length_of there.tree) n h)
 
 array_there : {K B : Type 0} (read : List B → At K → Result (Option B) (Fault K)) (name : List ℕ) (at there : At K) (items : List B) → spot name at ≡ Ok (Some there) → array read there ≡ Ok items → required_array read name at ≡ Ok items
 unfolding required_array optional_array
 array_there {K} {B} read name at there items e a =
-    ap (λ (r : Result (Option (At K)) (Fault K)). (r >>= λ found. array_if read found) >>= λ found. given name at found) e
-    ∙ ap (λ (r : Result (List B) (Fault K)). (r >>= λ (xs : List B). Ok (Some xs)) >>= λ found. given name at found) a
+    ap (λ (r : Result (Option (At K)) (Fault K)). (r >>= λ found. array_if read found) >>= λ found. found_or_missing name at found) e
+    ∙ ap (λ (r : Result (List B) (Fault K)). (r >>= λ (xs : List B). Ok (Some xs)) >>= λ found. found_or_missing name at found) a
 
 -- an array of n items that is there gives at most n
 pub array_few : {K B : Type 0} (read : List B → At K → Result (Option B) (Fault K)) (name : List ℕ) (at there : At K) (n : ℕ) (items : List B)

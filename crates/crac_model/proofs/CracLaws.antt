@@ -11,8 +11,8 @@ use Rattle.std.proofs.lemmas.Slice.Eq.{bytes_eq-Decides}
 use Rattle.serde_json.specs.Data.{Data}
 use Rattle.fb_json.specs.Tree.{text_of, length_of}
 use Rattle.json_reading.specs.Place.{in_member}
-use Rattle.json_reading.specs.Reading.{At, fault_here, fault_in, unless, known, is_true, absent, required, required_array, here, spot}
-use Rattle.json_reading.proofs.Kept.{bind_ok, unless_ok, known_ok, array_keeps, required_array_keeps}
+use Rattle.json_reading.specs.Reading.{At, fault_here, fault_in, refuse_if, found_or, is_true, absent, required, required_array, here, spot}
+use Rattle.json_reading.proofs.Kept.{bind_ok, refuse_if_ok, found_or_ok, array_keeps, required_array_keeps}
 use Rattle.fb_types.specs.declared.grid.Node.{Node}
 use Rattle.fb_types.specs.declared.grid.Branch.{Branch}
 use Rattle.fb_types.specs.declared.crac.Contingency.{Contingency}
@@ -20,7 +20,7 @@ use Rattle.fb_types.specs.declared.crac.Element.{Element}
 use Rattle.fb_types.specs.declared.crac.Crac.{Crac}
 use Rattle.name_tables.specs.Names.{is_among, value_at}
 use Rattle.crac_model.specs.Words.{word_is, is_preventive}
-use Rattle.crac_model.specs.Naming.{NamedGrid, places_of, named}
+use Rattle.crac_model.specs.Naming.{NamedGrid, places_of, branch_named}
 use Rattle.crac_model.specs.Crac.{instants_of, outage_of, branches_named, contingency_ids, contingency_of, contingency_list, contingencies_if, contingencies_of, Facts, is_coupler_at, monitored_of, contingency_for, State, state_of, margin_of, rated_limits, element_ids, element, entered_of, entry_of, crac_at, crac_of}
 use Rattle.crac_model.specs.Laws.{AreDistinct, IsElement, IsContingency, IsCracOver}
 use Rattle.crac_model.specs.declared.fault.CracKind.{CracKind}
@@ -54,10 +54,10 @@ outage_step : (grid : NamedGrid) → HasPlaces grid → (before : List Named) (a
 unfolding outage_of
 outage_step grid places before at item e so_far =
     let name = bind_ok (here text_of at) _ item e in
-    let found = bind_ok (known (named grid name.0) (fault_here UnknownElement at)) _ item name.2 in
+    let found = bind_ok (found_or (branch_named grid name.0) (fault_here UnknownElement at)) _ item name.2 in
     let same : Some found.0 ≡ item = cc in
-    let is = known_ok (named grid name.0) at.place UnknownElement found.0 found.1 in
-    let one = is_there (IsNamed (length grid.branches)) (named grid name.0) found.0 is (named_ok grid name.0 places) in
+    let is = found_or_ok (branch_named grid name.0) at.place UnknownElement found.0 found.1 in
+    let one = is_there (IsNamed (length grid.branches)) (branch_named grid name.0) found.0 is (named_ok grid name.0 places) in
     subst (λ (o : Option Named). All (IsNamed (length grid.branches)) (before ++ option_to_list o)) {x = Some found.0} same (All-push (IsNamed (length grid.branches)) before found.0 so_far one)
 
 record AreContingencies (branches : ℕ) (cs : List Contingency) : Type 0 where
@@ -70,11 +70,11 @@ unfolding contingency_of
 contingency_step grid places before at item e so_far =
     let n : ℕ = length grid.branches in
     let id = bind_ok (required text_of (codes "id") at) _ item e in
-    let new = bind_ok (unless (is_among (contingency_ids before) id.0) (fault_in (codes "id") DuplicateId at)) _ item id.2 in
+    let new = bind_ok (refuse_if (is_among (contingency_ids before) id.0) (fault_in (codes "id") DuplicateId at)) _ item id.2 in
     let outages = bind_ok (required_array (outage_of grid) (codes "networkElementsIds") at) _ item new.2 in
     let read : Contingency = record { id = id.0; branches = flat_map branches_named outages.0 } in
     let same : Some read ≡ item = cc in
-    let fresh = unless_ok (is_among (contingency_ids before) id.0) (in_member at.place (codes "id")) DuplicateId new.0 new.1 in
+    let fresh = refuse_if_ok (is_among (contingency_ids before) id.0) (in_member at.place (codes "id")) DuplicateId new.0 new.1 in
     let all = required_array_keeps (All (IsNamed n)) (outage_of grid) (outage_step grid places) (codes "networkElementsIds") at outages.0 (All-nil (IsNamed n)) outages.1 in
     subst (λ (o : Option Contingency). AreContingencies n (before ++ option_to_list o)) {x = Some read} same (record {
       each = All-push (IsContingency n) before read so_far.each (branches_ok n outages.0 all);
@@ -88,16 +88,16 @@ contingency_list_ok : (grid : NamedGrid) → HasPlaces grid → (at : At CracKin
 unfolding contingency_list
 contingency_list_ok grid places at cs e =
     let count = bind_ok (here length_of at) _ cs e in
-    let few = bind_ok (unless (nat_lt 512 count.0) (fault_here TooMany at)) _ cs count.2 in
+    let few = bind_ok (refuse_if (nat_lt 512 count.0) (fault_here TooMany at)) _ cs count.2 in
     array_keeps (AreContingencies (length grid.branches)) (contingency_of grid) (contingency_step grid places) at cs (no_contingencies (length grid.branches)) few.2
 
 few_contingencies : (grid : NamedGrid) (name : List ℕ) (at there : At CracKind) (cs : List Contingency) → spot name at ≡ Ok (Some there) → contingency_list grid there ≡ Ok cs → length cs ≤ 512
 unfolding contingency_list
 few_contingencies grid name at there cs s e =
     let count = bind_ok (here length_of there) _ cs e in
-    let few = bind_ok (unless (nat_lt 512 count.0) (fault_here TooMany there)) _ cs count.2 in
+    let few = bind_ok (refuse_if (nat_lt 512 count.0) (fault_here TooMany there)) _ cs count.2 in
     let most = array_few (contingency_of grid) name at there count.0 cs s count.1 few.2 in
-    let test = unless_ok (nat_lt 512 count.0) there.place TooMany few.0 few.1 in
+    let test = refuse_if_ok (nat_lt 512 count.0) there.place TooMany few.0 few.1 in
     grind arith
 
 record ContingenciesHold (branches : ℕ) (cs : List Contingency) : Type 0 where
@@ -130,11 +130,11 @@ monitored_ok : (grid : NamedGrid) → HasPlaces grid → (at : At CracKind) (fou
 unfolding monitored_of
 monitored_ok grid places at found e =
     let name = bind_ok (required text_of (codes "networkElementId") at) _ found e in
-    let one = bind_ok (known (named grid name.0) (fault_in (codes "networkElementId") UnknownElement at)) _ found name.2 in
-    let line = bind_ok (unless (is_coupler_at grid one.0.branch) (fault_in (codes "networkElementId") CouplerMonitored at)) _ found one.2 in
+    let one = bind_ok (found_or (branch_named grid name.0) (fault_in (codes "networkElementId") UnknownElement at)) _ found name.2 in
+    let line = bind_ok (refuse_if (is_coupler_at grid one.0.branch) (fault_in (codes "networkElementId") CouplerMonitored at)) _ found one.2 in
     let same : one.0 ≡ found = cc in
-    let is = known_ok (named grid name.0) (in_member at.place (codes "networkElementId")) UnknownElement one.0 one.1 in
-    subst (λ (f : Named). f.branch < length grid.branches) same (is_there (IsNamed (length grid.branches)) (named grid name.0) one.0 is (named_ok grid name.0 places)).first
+    let is = found_or_ok (branch_named grid name.0) (in_member at.place (codes "networkElementId")) UnknownElement one.0 one.1 in
+    subst (λ (f : Named). f.branch < length grid.branches) same (is_there (IsNamed (length grid.branches)) (branch_named grid name.0) one.0 is (named_ok grid name.0 places)).first
 
 contingency_for_ok : (n : ℕ) (preventive : Bool) (contingencies : List (List ℕ × ℕ)) (at : At CracKind) (found : Option ℕ) → ((id : List ℕ) → IfSome (value_at contingencies id) (λ place. place < n))
     → contingency_for preventive contingencies at ≡ Ok found → IfSome found (λ place. place < n)
@@ -145,16 +145,16 @@ contingency_for_ok n true contingencies at found below e =
     subst (λ (o : Option ℕ). IfSome o (λ place. place < n)) same tt
 contingency_for_ok n false contingencies at found below e =
     let id = bind_ok (required text_of (codes "contingencyId") at) _ found e in
-    let place = bind_ok (known (value_at contingencies id.0) (fault_in (codes "contingencyId") UnknownContingency at)) _ found id.2 in
+    let place = bind_ok (found_or (value_at contingencies id.0) (fault_in (codes "contingencyId") UnknownContingency at)) _ found id.2 in
     let same : Some place.0 ≡ found = cc in
-    let is = known_ok (value_at contingencies id.0) (in_member at.place (codes "contingencyId")) UnknownContingency place.0 place.1 in
+    let is = found_or_ok (value_at contingencies id.0) (in_member at.place (codes "contingencyId")) UnknownContingency place.0 place.1 in
     subst (λ (o : Option ℕ). IfSome o (λ p. p < n)) same (is_there (λ p. p < n) (value_at contingencies id.0) place.0 is (below id.0))
 
 state_ok : (n : ℕ) (facts : Facts) (at : At CracKind) (state : State) → AreFacts n facts → state_of facts at ≡ Ok state → IfSome state.contingency (λ place. place < n)
 unfolding state_of
 state_ok n facts at state h e =
     let instant = bind_ok (required text_of (codes "instant") at) _ state e in
-    let kind = bind_ok (known (value_at facts.instants instant.0) (fault_in (codes "instant") UnknownInstant at)) _ state instant.2 in
+    let kind = bind_ok (found_or (value_at facts.instants instant.0) (fault_in (codes "instant") UnknownInstant at)) _ state instant.2 in
     let contingency = bind_ok (contingency_for (is_preventive kind.0) facts.contingencies at) _ state kind.2 in
     let read : State = record { instant = instant.0; contingency = contingency.0 } in
     let same : read ≡ state = cc in
@@ -175,16 +175,16 @@ entered_step : (n : ℕ) (facts : Facts) → AreFacts n facts → (before : List
     → AreElements (length facts.grid.branches) n before → AreElements (length facts.grid.branches) n (before ++ option_to_list item)
 unfolding entered_of
 entered_step n facts h before at item e so_far =
-    let room = bind_ok (unless (nat_le 20000 (length before)) (fault_here TooMany at)) _ item e in
+    let room = bind_ok (refuse_if (nat_le 20000 (length before)) (fault_here TooMany at)) _ item e in
     let id = bind_ok (required text_of (codes "id") at) _ item room.2 in
-    let new = bind_ok (unless (is_among (element_ids before) id.0) (fault_in (codes "id") DuplicateId at)) _ item id.2 in
+    let new = bind_ok (refuse_if (is_among (element_ids before) id.0) (fault_in (codes "id") DuplicateId at)) _ item id.2 in
     let found = bind_ok (monitored_of facts.grid at) _ item new.2 in
     let state = bind_ok (state_of facts at) _ item found.2 in
     let margin = bind_ok (margin_of at) _ item state.2 in
     let limits = bind_ok (rated_limits facts.grid found.0.branch at) _ item margin.2 in
     let read : Element = element id.0 state.0 found.0 margin.0 limits.0 in
     let same : Some read ≡ item = same_value (Some read) item limits.2 in
-    let fresh = unless_ok (is_among (element_ids before) id.0) (in_member at.place (codes "id")) DuplicateId new.0 new.1 in
+    let fresh = refuse_if_ok (is_among (element_ids before) id.0) (in_member at.place (codes "id")) DuplicateId new.0 new.1 in
     let rated = rated_ok facts.grid found.0.branch at limits.0 limits.1 in
     let is : IsElement (length facts.grid.branches) n read = record {
       branch = monitored_ok facts.grid h.places at found.0 found.1;
@@ -195,7 +195,7 @@ entered_step n facts h before at item e so_far =
       limited = rated.limited;
     } in
     subst (λ (o : Option Element). AreElements (length facts.grid.branches) n (before ++ option_to_list o)) {x = Some read} same (record {
-      few = push_few before read (unless_ok (nat_le 20000 (length before)) at.place TooMany room.0 room.1);
+      few = push_few before read (refuse_if_ok (nat_le 20000 (length before)) at.place TooMany room.0 room.1);
       each = All-push (IsElement (length facts.grid.branches) n) before read so_far.each is;
       ids = subst AreDistinct (sym (push_element before read)) (one_distinct (element_ids before) id.0 fresh so_far.ids);
     })
@@ -222,7 +222,7 @@ crac_at_ok : (grid : NamedGrid) → HasPlaces grid → (at : At CracKind) (crac 
 unfolding crac_at
 crac_at_ok grid places at crac e =
     let word = bind_ok (required text_of (codes "type") at) _ crac e in
-    let is_crac = bind_ok (known (word_is (codes "CRAC") word.0) (fault_in (codes "type") WrongType at)) _ crac word.2 in
+    let is_crac = bind_ok (found_or (word_is (codes "CRAC") word.0) (fault_in (codes "type") WrongType at)) _ crac word.2 in
     let instants = bind_ok (instants_of at) _ crac is_crac.2 in
     let contingencies = bind_ok (contingencies_of grid at) _ crac instants.2 in
     let n : ℕ = length contingencies.0 in

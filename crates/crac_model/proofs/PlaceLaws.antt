@@ -13,7 +13,7 @@ use Rattle.name_tables.specs.Tables.{with_entry, with_entries}
 use Rattle.fb_types.specs.declared.grid.Node.{Node}
 use Rattle.fb_types.specs.declared.grid.Branch.{Branch}
 use Rattle.fb_types.specs.declared.crac.Contingency.{Contingency}
-use Rattle.crac_model.specs.Naming.{places_of, branch_ids, branch_places, NamedGrid, is_tie, is_joint, tie_between, tie_found, tie_of, tie_named, halves_of, single, named}
+use Rattle.crac_model.specs.Naming.{places_of, branch_ids, branch_places, NamedGrid, is_tie, is_joint, tie_between, tie_found, tie_of, tie_named, halves_of, single, branch_named}
 use Rattle.crac_model.specs.Crac.{contingency_ids, branches_named}
 use Rattle.crac_model.specs.declared.names.Named.{Named}
 use Rattle.crac_model.specs.declared.names.Halves.{Halves}
@@ -94,8 +94,8 @@ single_or n None tie p t = t
 single_or n (Some place) tie p t = record { first = p; second = tt }
 
 -- what a text names are branches of the grid
-pub named_ok : (grid : NamedGrid) (name : List ℕ) → HasPlaces grid → IfSome (named grid name) (IsNamed (length grid.branches))
-unfolding named
+pub named_ok : (grid : NamedGrid) (name : List ℕ) → HasPlaces grid → IfSome (branch_named grid name) (IsNamed (length grid.branches))
+unfolding branch_named
 named_ok grid name h = single_or (length grid.branches) (value_at grid.places (padded_name 19 name)) (tie_named grid name) (h.below (padded_name 19 name)) (tie_of_ok grid (halves_of (chars name)) h)
 
 -- ---- the branches of all names

@@ -8,13 +8,13 @@ use Rattle.std.proofs.lemmas.Int.{ints, clamps}
 use Rattle.std.proofs.lemmas.List.Elements.{All-push, All-nil, All-head, All-tail}
 use Rattle.fb_json.specs.Tree.{text_of, decimal_of}
 use Rattle.json_reading.specs.Place.{in_member}
-use Rattle.json_reading.specs.Reading.{At, fault_here, fault_in, unless, known, has, required, optional, required_array}
-use Rattle.json_reading.proofs.Kept.{bind_ok, unless_ok, required_array_keeps}
+use Rattle.json_reading.specs.Reading.{At, fault_here, fault_in, refuse_if, found_or, has, required, optional, required_array}
+use Rattle.json_reading.proofs.Kept.{bind_ok, refuse_if_ok, required_array_keeps}
 use Rattle.crac_model.specs.Words.{unit_of, is_within}
 use Rattle.crac_model.specs.Naming.{NamedGrid}
 use Rattle.crac_model.specs.Power.{most_watts}
 use Rattle.crac_model.specs.Ratings.{amounts, ratings_at}
-use Rattle.crac_model.specs.Thresholds.{side_in, bound_in, watts_of, capped, limit_of, threshold_of, smaller, smallest, directs, opposites, tightest, limits_of}
+use Rattle.crac_model.specs.Thresholds.{side_in, bound_in, watts_of, watts_up_to_cap, threshold_limit, threshold_of, smaller, smallest, directs, opposites, tightest, limits_of}
 use Rattle.crac_model.specs.Crac.{margin_watts, margin_in, margin_of, rated_limits}
 use Rattle.crac_model.specs.Laws.{IsLimit}
 use Rattle.crac_model.specs.declared.fault.CracKind.{CracKind}
@@ -23,7 +23,8 @@ use Rattle.crac_model.specs.declared.limits.LimitUnit.{LimitUnit}
 use Rattle.crac_model.specs.declared.limits.Limits.{Limits}
 use Rattle.crac_model.specs.declared.ratings.Ratings.{Ratings}
 use Rattle.crac_model.specs.declared.ratings.Side.{Side}
-use Rattle.crac_model.proofs.TestLaws.{both, not_not, at_most, not_below, one_is_there, same_value}
+use Rattle.json_reading.proofs.Tests.{both, not_not, at_most, not_below}
+use Rattle.crac_model.proofs.TestLaws.{one_is_there, same_value}
 
 -- ---- margins
 
@@ -35,8 +36,8 @@ unfolding margin_in
 margin_in_ok name at watts e =
     let value = bind_ok (optional decimal_of name at) _ watts e in
     let z : ℤ = margin_watts value.0 in
-    let fits = bind_ok (unless (not (is_within (pos 0) (pos most_watts) z)) (fault_in name OutOfRange at)) _ watts value.2 in
-    let ends = both _ _ (not_not (is_within (pos 0) (pos most_watts) z) (unless_ok (not (is_within (pos 0) (pos most_watts) z)) (in_member at.place name) OutOfRange fits.0 fits.1)) in
+    let fits = bind_ok (refuse_if (not (is_within (pos 0) (pos most_watts) z)) (fault_in name OutOfRange at)) _ watts value.2 in
+    let ends = both _ _ (not_not (is_within (pos 0) (pos most_watts) z) (refuse_if_ok (not (is_within (pos 0) (pos most_watts) z)) (in_member at.place name) OutOfRange fits.0 fits.1)) in
     let same : z ≡ watts = same_value z watts fits.2 in
     subst IsMargin same (at_most (pos 0) z ends.0, at_most z (pos most_watts) ends.1)
 
@@ -45,25 +46,25 @@ unfolding margin_of
 margin_ok at watts e =
     let long = bind_ok (has (codes "reliabilityMargin") at) _ watts e in
     let short = bind_ok (has (codes "frm") at) _ watts long.2 in
-    let one = bind_ok (unless (short.0 && long.0) (fault_here BothMargins at)) _ watts short.2 in
+    let one = bind_ok (refuse_if (short.0 && long.0) (fault_here BothMargins at)) _ watts short.2 in
     margin_in_ok (if short.0 then codes "frm" else codes "reliabilityMargin") at watts one.2
 
 -- ---- limits
 
-capped_ok : (watts : ℤ) → pos 1 ≤ℤ watts → IsLimit (capped watts)
-capped_ok watts h = (omega (arith, ints, clamps, h), omega (arith, ints, clamps))
+up_to_cap_ok : (watts : ℤ) → pos 1 ≤ℤ watts → IsLimit (watts_up_to_cap watts)
+up_to_cap_ok watts h = (omega (arith, ints, clamps, h), omega (arith, ints, clamps))
 
-limit_ok : (ratings : Ratings) (unit : LimitUnit) (side : Side) (value : Option ℤ) (at : At CracKind) (limit : Option ℤ) → limit_of ratings unit side value at ≡ Ok limit → IfSome limit IsLimit
-unfolding limit_of
+limit_ok : (ratings : Ratings) (unit : LimitUnit) (side : Side) (value : Option ℤ) (at : At CracKind) (limit : Option ℤ) → threshold_limit ratings unit side value at ≡ Ok limit → IfSome limit IsLimit
+unfolding threshold_limit
 limit_ok ratings unit side None at limit e =
     let same : None ≡ limit = cc in
     subst (λ (o : Option ℤ). IfSome o IsLimit) same tt
 limit_ok ratings unit side (Some value) at limit e =
     let watts = bind_ok (watts_of ratings unit side value at) _ limit e in
-    let positive = bind_ok (unless (int_lt watts.0 (pos 1)) (fault_here LimitNotPositive at)) _ limit watts.2 in
-    let same : Some (capped watts.0) ≡ limit = cc in
-    let least = not_below watts.0 (pos 1) (unless_ok (int_lt watts.0 (pos 1)) at.place LimitNotPositive positive.0 positive.1) in
-    subst (λ (o : Option ℤ). IfSome o IsLimit) same (capped_ok watts.0 least)
+    let positive = bind_ok (refuse_if (int_lt watts.0 (pos 1)) (fault_here LimitNotPositive at)) _ limit watts.2 in
+    let same : Some (watts_up_to_cap watts.0) ≡ limit = cc in
+    let least = not_below watts.0 (pos 1) (refuse_if_ok (int_lt watts.0 (pos 1)) at.place LimitNotPositive positive.0 positive.1) in
+    subst (λ (o : Option ℤ). IfSome o IsLimit) same (up_to_cap_ok watts.0 least)
 
 record AreLimits (limits : Limits) : Type 0 where
   direct : IfSome limits.direct IsLimit
@@ -73,12 +74,12 @@ threshold_step : (ratings : Ratings) (before : List Limits) (at : At CracKind) (
 unfolding threshold_of
 threshold_step ratings before at item e so_far =
     let word = bind_ok (required text_of (codes "unit") at) _ item e in
-    let unit = bind_ok (known (unit_of word.0) (fault_in (codes "unit") WrongType at)) _ item word.2 in
+    let unit = bind_ok (found_or (unit_of word.0) (fault_in (codes "unit") WrongType at)) _ item word.2 in
     let side = bind_ok (side_in at) _ item unit.2 in
     let low = bind_ok (bound_in (codes "min") at) _ item side.2 in
     let high = bind_ok (bound_in (codes "max") at) _ item low.2 in
-    let direct = bind_ok (limit_of ratings unit.0 side.0 high.0 at) _ item high.2 in
-    let opposite = bind_ok (limit_of ratings unit.0 side.0 (option_map neg_ℤ low.0) at) _ item direct.2 in
+    let direct = bind_ok (threshold_limit ratings unit.0 side.0 high.0 at) _ item high.2 in
+    let opposite = bind_ok (threshold_limit ratings unit.0 side.0 (option_map neg_ℤ low.0) at) _ item direct.2 in
     let read : Limits = record { direct = direct.0; opposite = opposite.0 } in
     let same : Some read ≡ item = same_value (Some read) item opposite.2 in
     let is : AreLimits read = record {
@@ -113,13 +114,13 @@ unfolding limits_of tightest
 limits_ok ratings at limits e =
     let thresholds = bind_ok (required_array (threshold_of ratings) (codes "thresholds") at) _ limits e in
     let none = is_none (smallest (directs thresholds.0)) && is_none (smallest (opposites thresholds.0)) in
-    let some = bind_ok (unless none (fault_here NoLimit at)) _ limits thresholds.2 in
+    let some = bind_ok (refuse_if none (fault_here NoLimit at)) _ limits thresholds.2 in
     let same : tightest thresholds.0 ≡ limits = cc in
     let all = required_array_keeps (All AreLimits) (threshold_of ratings) (threshold_step ratings) (codes "thresholds") at thresholds.0 (All-nil AreLimits) thresholds.1 in
     subst HasLimits same (record {
       direct = directs_ok thresholds.0 all;
       opposite = opposites_ok thresholds.0 all;
-      limited = one_is_there (smallest (directs thresholds.0)) (smallest (opposites thresholds.0)) (unless_ok none at.place NoLimit some.0 some.1);
+      limited = one_is_there (smallest (directs thresholds.0)) (smallest (opposites thresholds.0)) (refuse_if_ok none at.place NoLimit some.0 some.1);
     })
 
 pub rated_ok : (grid : NamedGrid) (place : ℕ) (at : At CracKind) (limits : Limits) → rated_limits grid place at ≡ Ok limits → HasLimits limits

@@ -1,22 +1,6 @@
--- Tests that come out true or false, and values that are there.
-use Rattle.std.proofs.Common.{◌≡◌, Bool, true, false, ℤ, Option, Some, None, Result, Ok, refl, subst, arith}
-use Rattle.std.specs.Prelude.{◌≤ℤ◌, ◌&&◌, ◌||◌, not, int_lt, int_le, is_none, is_some, IfSome}
-use Rattle.std.proofs.lemmas.Int.{ints}
-
-pub both : (a b : Bool) → (a && b) ≡ true → (a ≡ true) × (b ≡ true)
-both true true e = (refl, refl)
-both true false e = absurd cc
-both false b e = absurd cc
-
-pub not_not : (a : Bool) → not a ≡ false → a ≡ true
-not_not true e = refl
-not_not false e = absurd cc
-
-pub at_most : (a b : ℤ) → int_le a b ≡ true → a ≤ℤ b
-at_most a b e = grind (arith, ints)
-
-pub not_below : (a b : ℤ) → int_lt a b ≡ false → b ≤ℤ a
-not_below a b e = grind (arith, ints)
+-- Values that are there.
+use Rattle.std.proofs.Common.{◌≡◌, true, false, Option, Some, None, Result, Ok, refl, subst}
+use Rattle.std.specs.Prelude.{◌&&◌, ◌||◌, is_none, is_some, IfSome}
 
 pub one_is_there : {A B : Type 0} (a : Option A) (b : Option B) → (is_none a && is_none b) ≡ false → (is_some a || is_some b) ≡ true
 one_is_there None None e = absurd cc

@@ -11,9 +11,9 @@ use Rattle.fb_types.specs.declared.crac.Crac.{Crac}
 use Rattle.fb_types.specs.declared.grid.Node.{Node}
 use Rattle.fb_types.specs.declared.grid.Branch.{Branch}
 use Rattle.name_tables.specs.Names.{is_among, value_at}
-use Rattle.json_reading.specs.Reading.{At, Reading, ◌>>=◌, fault_here, fault_in, unless, known, has, required, optional, here, is_true, absent, spot, array, optional_array, required_array}
+use Rattle.json_reading.specs.Reading.{At, Reading, ◌>>=◌, fault_here, fault_in, refuse_if, found_or, has, required, optional, here, is_true, absent, spot, array, optional_array, required_array}
 use Rattle.crac_model.specs.Words.{word_is, instant_kind, is_preventive, is_within}
-use Rattle.crac_model.specs.Naming.{NamedGrid, places_of, branch_places, is_coupler, named}
+use Rattle.crac_model.specs.Naming.{NamedGrid, places_of, branch_places, is_coupler, branch_named}
 use Rattle.crac_model.specs.Power.{most_watts}
 use Rattle.crac_model.specs.Ratings.{amounts, ratings_at}
 use Rattle.crac_model.specs.Thresholds.{limits_of}
@@ -38,9 +38,9 @@ kinds_of (i ∷ is) = (i.id, i.kind) ∷ kinds_of is
 unfoldable pub instant_of : List Instant → At CracKind → Read (Option Instant)
 instant_of before at = do
   id ← required text_of (codes "id") at
-  is_new ← unless (is_some (value_at (kinds_of before) id)) (fault_in (codes "id") DuplicateId at)
+  is_new ← refuse_if (is_some (value_at (kinds_of before) id)) (fault_in (codes "id") DuplicateId at)
   word ← required text_of (codes "kind") at
-  kind ← known (instant_kind word) (fault_in (codes "kind") WrongType at)
+  kind ← found_or (instant_kind word) (fault_in (codes "kind") WrongType at)
   Ok (Some (record { id = id; kind = kind }))
 
 abbrev pub default_kinds : List (List ℕ × InstantKind)
@@ -56,7 +56,7 @@ instants_of at = do
 unfoldable pub outage_of : NamedGrid → List Named → At CracKind → Read (Option Named)
 outage_of grid before at = do
   name ← here text_of at
-  found ← known (named grid name) (fault_here UnknownElement at)
+  found ← found_or (branch_named grid name) (fault_here UnknownElement at)
   Ok (Some found)
 
 -- a tie line is taken out with both of its halves
@@ -70,14 +70,14 @@ contingency_ids (c ∷ cs) = c.id ∷ contingency_ids cs
 unfoldable pub contingency_of : NamedGrid → List Contingency → At CracKind → Read (Option Contingency)
 contingency_of grid before at = do
   id ← required text_of (codes "id") at
-  is_new ← unless (is_among (contingency_ids before) id) (fault_in (codes "id") DuplicateId at)
+  is_new ← refuse_if (is_among (contingency_ids before) id) (fault_in (codes "id") DuplicateId at)
   outages ← required_array (outage_of grid) (codes "networkElementsIds") at
   Ok (Some (record { id = id; branches = flat_map branches_named outages }))
 
 unfoldable pub contingency_list : NamedGrid → At CracKind → Read (List Contingency)
 contingency_list grid at = do
   count ← here length_of at
-  few ← unless (nat_lt 512 count) (fault_here TooMany at)
+  few ← refuse_if (nat_lt 512 count) (fault_here TooMany at)
   array (contingency_of grid) at
 
 abbrev pub contingencies_if : NamedGrid → Option (At CracKind) → Read (List Contingency)
@@ -105,8 +105,8 @@ is_coupler_at grid place = option_map_or (λ b. is_coupler b.kind) (slice_get gr
 unfoldable pub monitored_of : NamedGrid → At CracKind → Read Named
 monitored_of grid at = do
   name ← required text_of (codes "networkElementId") at
-  found ← known (named grid name) (fault_in (codes "networkElementId") UnknownElement at)
-  no_coupler ← unless (is_coupler_at grid found.branch) (fault_in (codes "networkElementId") CouplerMonitored at)
+  found ← found_or (branch_named grid name) (fault_in (codes "networkElementId") UnknownElement at)
+  no_coupler ← refuse_if (is_coupler_at grid found.branch) (fault_in (codes "networkElementId") CouplerMonitored at)
   Ok found
 
 -- the contingency: of a preventive instant there is none, of any other there must be one
@@ -116,7 +116,7 @@ contingency_for true contingencies at = do
   Ok None
 contingency_for false contingencies at = do
   id ← required text_of (codes "contingencyId") at
-  place ← known (value_at contingencies id) (fault_in (codes "contingencyId") UnknownContingency at)
+  place ← found_or (value_at contingencies id) (fault_in (codes "contingencyId") UnknownContingency at)
   Ok (Some place)
 
 -- the grid state that an element is monitored in
@@ -127,7 +127,7 @@ pub record State : Type 0 where
 unfoldable pub state_of : Facts → At CracKind → Read State
 state_of facts at = do
   instant ← required text_of (codes "instant") at
-  kind ← known (value_at facts.instants instant) (fault_in (codes "instant") UnknownInstant at)
+  kind ← found_or (value_at facts.instants instant) (fault_in (codes "instant") UnknownInstant at)
   contingency ← contingency_for (is_preventive kind) facts.contingencies at
   Ok (record { instant = instant; contingency = contingency })
 
@@ -138,14 +138,14 @@ margin_watts value = option_map_or (λ d. d.millionths) value (pos 0)
 unfoldable pub margin_in : List ℕ → At CracKind → Read ℤ
 margin_in name at = do
   value ← optional decimal_of name at
-  fits ← unless (not (is_within (pos 0) (pos most_watts) (margin_watts value))) (fault_in name OutOfRange at)
+  fits ← refuse_if (not (is_within (pos 0) (pos most_watts) (margin_watts value))) (fault_in name OutOfRange at)
   Ok (margin_watts value)
 
 unfoldable pub margin_of : At CracKind → Read ℤ
 margin_of at = do
   long ← has (codes "reliabilityMargin") at
   short ← has (codes "frm") at
-  one ← unless (short && long) (fault_here BothMargins at)
+  one ← refuse_if (short && long) (fault_here BothMargins at)
   margin_in (if short then codes "frm" else codes "reliabilityMargin") at
 
 -- currents from 0 to 10^6 A in millionths, voltages from 0.001 to 1000 kV in millionths
@@ -173,9 +173,9 @@ element id state found margin limits = record {
 
 unfoldable pub entered_of : Facts → List Element → At CracKind → Read (Option Element)
 entered_of facts before at = do
-  room ← unless (nat_le 20000 (length before)) (fault_here TooMany at)
+  room ← refuse_if (nat_le 20000 (length before)) (fault_here TooMany at)
   id ← required text_of (codes "id") at
-  is_new ← unless (is_among (element_ids before) id) (fault_in (codes "id") DuplicateId at)
+  is_new ← refuse_if (is_among (element_ids before) id) (fault_in (codes "id") DuplicateId at)
   found ← monitored_of facts.grid at
   state ← state_of facts at
   margin ← margin_of at
@@ -193,7 +193,7 @@ entry_of facts before at = do
 unfoldable pub crac_at : NamedGrid → At CracKind → Read Crac
 crac_at grid at = do
   word ← required text_of (codes "type") at
-  is_crac ← known (word_is (codes "CRAC") word) (fault_in (codes "type") WrongType at)
+  is_crac ← found_or (word_is (codes "CRAC") word) (fault_in (codes "type") WrongType at)
   instants ← instants_of at
   contingencies ← contingencies_of grid at
   elements ← required_array (entry_of (record { grid = grid; instants = instants; contingencies = places_of (contingency_ids contingencies) })) (codes "flowCnecs") at

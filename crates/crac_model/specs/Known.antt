@@ -1,4 +1,5 @@
 -- What the reader of elements holds, as the description sees it.
+-- Nobody need believe these words: they are of private contracts.
 use Rattle.crac_model.specs.Crac.{Facts, State}
 use Rattle.crac_model.specs.Naming.{grid_of}
 use Rattle.crac_model.specs.declared.entries.ElementReader.{ElementReader}

@@ -1,6 +1,8 @@
 pub mod Words
 pub mod Naming
 pub mod Power
+pub mod PowerFound
+pub mod Carried
 pub mod Ratings
 pub mod Thresholds
 pub mod Crac

@@ -93,8 +93,8 @@ abbrev pub single : ℕ → Named
 single place = record { branch = place; other = None; turned = false }
 
 -- a branch's id, padded with blanks to 19 characters, or a tie line
-unfoldable pub named : NamedGrid → List ℕ → Option Named
-named grid name = option_or (option_map single (value_at grid.places (padded_name 19 name))) (tie_named grid name)
+unfoldable pub branch_named : NamedGrid → List ℕ → Option Named
+branch_named grid name = option_or (option_map single (value_at grid.places (padded_name 19 name))) (tie_named grid name)
 
 -- ---- what the code holds of a grid
 

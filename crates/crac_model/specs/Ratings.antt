@@ -8,7 +8,7 @@ use Rattle.fb_json.specs.declared.document.Got.TheVariants.{Absent, Wrong, Value
 use Rattle.fb_decimal.specs.declared.Decimal.{Decimal}
 use Rattle.fb_types.specs.declared.grid.Node.{Node}
 use Rattle.fb_types.specs.declared.grid.Branch.{Branch}
-use Rattle.json_reading.specs.Reading.{At, Reading, ◌>>=◌, fault_here, unless, here, spot, array}
+use Rattle.json_reading.specs.Reading.{At, Reading, ◌>>=◌, fault_here, refuse_if, here, spot, array}
 use Rattle.crac_model.specs.Words.{is_within}
 use Rattle.crac_model.specs.Naming.{NamedGrid}
 use Rattle.crac_model.specs.declared.fault.CracKind.{CracKind}
@@ -22,7 +22,7 @@ use Rattle.crac_model.specs.declared.ratings.Ratings.{Ratings}
 
 abbrev pub amount_from : ℤ → ℤ → At CracKind → Decimal → Reading CracKind ℤ
 amount_from low high at value = do
-  fits ← unless (not (is_within low high value.millionths)) (fault_here OutOfRange at)
+  fits ← refuse_if (not (is_within low high value.millionths)) (fault_here OutOfRange at)
   Ok value.millionths
 
 unfoldable pub amount_of : ℤ → ℤ → List ℤ → At CracKind → Reading CracKind (Option ℤ)
@@ -40,7 +40,7 @@ sides_of (first ∷ last ∷ more) = record { first = first; last = last }
 unfoldable pub amount_list : ℤ → ℤ → At CracKind → Reading CracKind Sides
 amount_list low high at = do
   count ← here length_of at
-  one_or_two ← unless ((count == 0) || nat_lt 2 count) (fault_here WrongType at)
+  one_or_two ← refuse_if ((count == 0) || nat_lt 2 count) (fault_here WrongType at)
   amounts ← array (amount_of low high) at
   Ok (sides_of amounts)
 

@@ -8,9 +8,10 @@ use Rattle.fb_json.specs.Tree.{text_of, decimal_of}
 use Rattle.fb_json.specs.declared.document.Got.{Got}
 use Rattle.fb_json.specs.declared.document.Got.TheVariants.{Absent, Wrong, Value}
 use Rattle.fb_decimal.specs.declared.Decimal.{Decimal}
-use Rattle.json_reading.specs.Reading.{At, Reading, ◌>>=◌, fault_here, fault_in, unless, known, required, optional, required_array}
+use Rattle.json_reading.specs.Reading.{At, Reading, ◌>>=◌, fault_here, fault_in, refuse_if, found_or, required, optional, required_array}
 use Rattle.crac_model.specs.Words.{unit_of, is_within}
-use Rattle.crac_model.specs.Power.{carried, most_watts}
+use Rattle.crac_model.specs.Carried.{carried_watts}
+use Rattle.crac_model.specs.Power.{most_watts}
 use Rattle.crac_model.specs.Ratings.{current_at, volts_at}
 use Rattle.crac_model.specs.declared.fault.CracKind.{CracKind}
 use Rattle.crac_model.specs.declared.fault.CracKind.TheVariants.{WrongType, OutOfRange, LimitNotPositive, NoLimit, NoCurrent}
@@ -64,7 +65,7 @@ bound_fits (Some value) = is_within (neg_ℤ most) most value.millionths
 unfoldable pub bound_in : List ℕ → At CracKind → Reading CracKind (Option ℤ)
 bound_in name at = do
   value ← optional decimal_of name at
-  fits ← unless (not (bound_fits value)) (fault_in name OutOfRange at)
+  fits ← refuse_if (not (bound_fits value)) (fault_in name OutOfRange at)
   Ok (option_map (λ d. d.millionths) value)
 
 -- ---- a limit in watts, of a value in millionths of the unit
@@ -72,22 +73,22 @@ bound_in name at = do
 -- A share of the current limit is a number: 0.8 is 80 per cent.
 unfoldable pub watts_of : Ratings → LimitUnit → Side → ℤ → At CracKind → Reading CracKind ℤ
 watts_of ratings Megawatt side value at = Ok value
-watts_of ratings Ampere side value at = Ok (pos (carried (int_div value (pos 1000)) (volts_at ratings side)))
+watts_of ratings Ampere side value at = Ok (pos (carried_watts (int_div value (pos 1000)) (volts_at ratings side)))
 watts_of ratings PercentImax side value at = do
-  current ← known (current_at ratings side) (fault_here NoCurrent at)
-  Ok (pos (carried (int_div (current *ℤ value) (pos (10 ^ 9))) (volts_at ratings side)))
+  current ← found_or (current_at ratings side) (fault_here NoCurrent at)
+  Ok (pos (carried_watts (int_div (current *ℤ value) (pos (10 ^ 9))) (volts_at ratings side)))
 
 -- every limit above 10^11 W counts as 10^11 W
-abbrev pub capped : ℤ → ℤ
-capped watts = int_min watts (pos most_watts)
+abbrev pub watts_up_to_cap : ℤ → ℤ
+watts_up_to_cap watts = int_min watts (pos most_watts)
 
 -- a limit is at least 1 W
-unfoldable pub limit_of : Ratings → LimitUnit → Side → Option ℤ → At CracKind → Reading CracKind (Option ℤ)
-limit_of ratings unit side None at = Ok None
-limit_of ratings unit side (Some value) at = do
+unfoldable pub threshold_limit : Ratings → LimitUnit → Side → Option ℤ → At CracKind → Reading CracKind (Option ℤ)
+threshold_limit ratings unit side None at = Ok None
+threshold_limit ratings unit side (Some value) at = do
   watts ← watts_of ratings unit side value at
-  positive ← unless (int_lt watts (pos 1)) (fault_here LimitNotPositive at)
-  Ok (Some (capped watts))
+  positive ← refuse_if (int_lt watts (pos 1)) (fault_here LimitNotPositive at)
+  Ok (Some (watts_up_to_cap watts))
 
 -- ---- thresholds
 
@@ -95,12 +96,12 @@ limit_of ratings unit side (Some value) at = do
 unfoldable pub threshold_of : Ratings → List Limits → At CracKind → Reading CracKind (Option Limits)
 threshold_of ratings before at = do
   word ← required text_of (codes "unit") at
-  unit ← known (unit_of word) (fault_in (codes "unit") WrongType at)
+  unit ← found_or (unit_of word) (fault_in (codes "unit") WrongType at)
   side ← side_in at
   low ← bound_in (codes "min") at
   high ← bound_in (codes "max") at
-  direct ← limit_of ratings unit side high at
-  opposite ← limit_of ratings unit side (option_map neg_ℤ low) at
+  direct ← threshold_limit ratings unit side high at
+  opposite ← threshold_limit ratings unit side (option_map neg_ℤ low) at
   Ok (Some (record { direct = direct; opposite = opposite }))
 
 -- of the limits of one direction the smallest counts
@@ -127,5 +128,5 @@ tightest thresholds = record { direct = smallest (directs thresholds); opposite 
 unfoldable pub limits_of : Ratings → At CracKind → Reading CracKind Limits
 limits_of ratings at = do
   thresholds ← required_array (threshold_of ratings) (codes "thresholds") at
-  some ← unless (is_none (tightest thresholds).direct && is_none (tightest thresholds).opposite) (fault_here NoLimit at)
+  some ← refuse_if (is_none (tightest thresholds).direct && is_none (tightest thresholds).opposite) (fault_here NoLimit at)
   Ok (tightest thresholds)

@@ -55,7 +55,7 @@ fn monitored_of(
 {
     let name = at.required_text(alloc, "networkElementId")?;
     let found = find_named(alloc, grid, name)?;
-    let found = at.known(alloc, "networkElementId", CracKind::UnknownElement, found)?;
+    let found = at.found_or(alloc, "networkElementId", CracKind::UnknownElement, found)?;
     if is_coupler_at(grid, found.branch) {
         return Err(at.fault_in(alloc, "networkElementId", CracKind::CouplerMonitored));
     }
@@ -77,7 +77,7 @@ fn contingency_for(
     }
     let id = at.required_text(alloc, "contingencyId")?;
     let found = contingencies.get(id);
-    let place = at.known(alloc, "contingencyId", CracKind::UnknownContingency, found)?;
+    let place = at.found_or(alloc, "contingencyId", CracKind::UnknownContingency, found)?;
     Ok(Some(place))
 }
 
@@ -92,7 +92,7 @@ fn state_of<'a>(
 {
     let instant = at.required_text(alloc, "instant")?;
     let found = reader.instants.get(instant);
-    let kind = at.known(alloc, "instant", CracKind::UnknownInstant, found)?;
+    let kind = at.found_or(alloc, "instant", CracKind::UnknownInstant, found)?;
     let contingency = contingency_for(alloc, is_preventive(kind), reader.contingencies, at)?;
     Ok(Monitoring {
         instant,

@@ -75,7 +75,7 @@ impl ItemReader for InstantReader {
             return Err(at.fault_in(alloc, "id", CracKind::DuplicateId));
         }
         let word = at.required_text(alloc, "kind")?;
-        let kind = at.known(alloc, "kind", CracKind::WrongType, instant_kind(word))?;
+        let kind = at.found_or(alloc, "kind", CracKind::WrongType, instant_kind(word))?;
         note_new(alloc, index, id, kind)?;
         let id = Text::from_text(alloc, id)?;
         Ok(Some(Instant { id, kind }))

@@ -14,6 +14,3 @@ mod reading;
 
 pub use fault::{CracError, CracKind};
 pub use reading::read_crac;
-
-#[cfg(test)]
-mod tests;

@@ -7,10 +7,10 @@ ghost use Rattle.json_reading.specs.Reading.{optional};
 ghost use Rattle.json_reading.specs.Outcome.{Gives, same};
 ghost use Rattle.json_reading.specs.Here.{at_of};
 ghost use Rattle.crac_model.specs.Words.{word_is, unit_of};
-ghost use Rattle.crac_model.specs.Thresholds.{side_by_number, side_by_word, side_of, side_in, bound_in, watts_of, limit_of, threshold_of, smaller, tightest, limits_of};
+ghost use Rattle.crac_model.specs.Thresholds.{side_by_number, side_by_word, side_of, side_in, bound_in, watts_of, threshold_limit, threshold_of, smaller, tightest, limits_of};
 
 use crate::fault::CracKind;
-use crate::power::{MOST_WATTS, carried};
+use crate::power::{MOST_WATTS, carried_watts};
 use crate::ratings::{Ratings, Side, current_at, volts_at};
 use fb_decimal::Decimal;
 use fb_json::{Got, Spot};
@@ -135,7 +135,7 @@ fn bound_in(
     }
 }
 
-fn negated(value: Option<i64>) -> Option<i64>
+fn negative_of(value: Option<i64>) -> Option<i64>
     requires { IfSome value (λ v. nat_abs v ≤ 10 ^ 15) }
     ensures value { result ≡ option_map neg_ℤ value }
     ensures small { IfSome result (λ v. nat_abs v ≤ 10 ^ 15) }
@@ -172,17 +172,17 @@ fn watts_of(
         LimitUnit::Megawatt => Ok(value),
         LimitUnit::Ampere => {
             let current = value / 1000;
-            Ok(carried(i128::from(current), volts_at(ratings, side)) as i64)
+            Ok(carried_watts(i128::from(current), volts_at(ratings, side)) as i64)
         }
         LimitUnit::PercentImax => {
-            let current = at.known_here(alloc, CracKind::NoCurrent, current_at(ratings, side))?;
-            Ok(carried(share_of(current, value), volts_at(ratings, side)) as i64)
+            let current = at.found_or_here(alloc, CracKind::NoCurrent, current_at(ratings, side))?;
+            Ok(carried_watts(share_of(current, value), volts_at(ratings, side)) as i64)
         }
     }
 }
 
-#[tactic(auto, using(json_reading::proofs::Refused::refused), unfolding(crate::specs::Thresholds::limit_of))]
-fn limit_of(
+#[tactic(auto, using(json_reading::proofs::Refused::refused), unfolding(crate::specs::Thresholds::threshold_limit))]
+fn threshold_limit(
     alloc: Global,
     ratings: &Ratings,
     unit: LimitUnit,
@@ -191,7 +191,7 @@ fn limit_of(
     at: &Here<'_, CracKind>,
 ) -> Result<Option<i64>, ReadError<CracKind>>
     requires { IfSome value (λ v. nat_abs v ≤ 10 ^ 15) }
-    ensures { Gives same result (limit_of ratings.now unit side value (at_of at.now)) }
+    ensures { Gives same result (threshold_limit ratings.now unit side value (at_of at.now)) }
 {
     match value {
         None => Ok(None),
@@ -230,12 +230,12 @@ impl<'a> ItemReader for ThresholdReader<'a> {
         at: &Here<'_, CracKind>,
     ) -> Result<Option<Limits>, ReadError<CracKind>> {
         let word = at.required_text(alloc, "unit")?;
-        let unit = at.known(alloc, "unit", CracKind::WrongType, unit_of(word))?;
+        let unit = at.found_or(alloc, "unit", CracKind::WrongType, unit_of(word))?;
         let side = side_in(alloc, at)?;
         let low = bound_in(alloc, "min", at)?;
         let high = bound_in(alloc, "max", at)?;
-        let direct = limit_of(alloc, self.ratings, unit, side, high, at)?;
-        let opposite = limit_of(alloc, self.ratings, unit, side, negated(low), at)?;
+        let direct = threshold_limit(alloc, self.ratings, unit, side, high, at)?;
+        let opposite = threshold_limit(alloc, self.ratings, unit, side, negative_of(low), at)?;
         Ok(Some(Limits { direct, opposite }))
     }
 }

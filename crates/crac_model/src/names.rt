@@ -4,7 +4,7 @@ ghost use Rattle.std.specs.Prelude.{◌≡◌, ◌≤◌, ◌<◌, ◌^◌, [], 
 ghost use Rattle.std.specs.Str.{chars, encode_utf8_all};
 ghost use Rattle.name_tables.specs.Names.{is_among, value_at};
 ghost use Rattle.name_tables.specs.Tables.{with_entry};
-ghost use Rattle.crac_model.specs.Naming.{branch_places, halves_of, is_x_node, is_joint, meets_once, is_tie, tie_between, tie_at, tie_named, named, grid_of};
+ghost use Rattle.crac_model.specs.Naming.{branch_places, halves_of, is_x_node, is_joint, meets_once, is_tie, tie_between, tie_at, tie_named, branch_named, grid_of};
 
 use fb_types::{Branch, BranchKind, Node, Text};
 use name_tables::{NameTable, ValueTable, padded};
@@ -206,13 +206,13 @@ fn tie_named(alloc: Global, grid: &GridNames<'_>, name: &str) -> Result<Option<N
 }
 
 /// What a text names in the grid, if it names anything.
-#[tactic(auto, unfolding(crate::specs::Naming::named))]
+#[tactic(auto, unfolding(crate::specs::Naming::branch_named))]
 pub fn find_named(
     alloc: Global,
     grid: &GridNames<'_>,
     name: &str,
 ) -> Result<Option<Named>, AllocError>
-    ensures { IfOk result (λ found. found ≡ named (grid_of grid.now) name.now) }
+    ensures { IfOk result (λ found. found ≡ branch_named (grid_of grid.now) name.now) }
 {
     let id = padded(alloc, name, 19)?;
     match grid.places.get(id.as_str()) {

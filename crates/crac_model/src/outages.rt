@@ -40,7 +40,7 @@ impl<'a> ItemReader for OutageReader<'a> {
     ) -> Result<Option<Named>, ReadError<CracKind>> {
         let name = at.text(alloc)?;
         let found = find_named(alloc, &self.grid, name)?;
-        let found = at.known_here(alloc, CracKind::UnknownElement, found)?;
+        let found = at.found_or_here(alloc, CracKind::UnknownElement, found)?;
         Ok(Some(found))
     }
 }

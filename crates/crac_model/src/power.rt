@@ -1,7 +1,8 @@
 //! The power that a current carries at a voltage.
 
 ghost use Rattle.std.specs.Prelude.{◌≡◌, ◌+◌, ◌*◌, ◌<◌, ◌≤◌, ◌^◌, true, false, pos, ◌≤ℤ◌, unsigned_abs};
-ghost use Rattle.crac_model.specs.Power.{most_watts, squared_power, is_carried, power_of, IsPower, carried};
+ghost use Rattle.crac_model.specs.Carried.{carried_watts};
+ghost use Rattle.crac_model.specs.Power.{most_watts, is_carried, IsPower};
 
 /// Every limit above 10^11 W counts as 10^11 W.
 pub const MOST_WATTS: u64 = 100_000_000_000;
@@ -64,8 +65,8 @@ fn power(current: u128, voltage: u64) -> u64
 
 #[tactic(auto, using(crate::proofs::PowerLaws::carried_is, crate::proofs::PowerLaws::carried_none))]
 /// The same of a current of either sign: one that is not positive carries nothing.
-pub fn carried(current: i128, voltage: u64) -> u64
-    ensures watts { result ≡ carried current voltage }
+pub fn carried_watts(current: i128, voltage: u64) -> u64
+    ensures watts { result ≡ carried_watts current voltage }
     ensures inequality { pos 0 ≤ℤ current → IsPower (unsigned_abs current) voltage result }
     ensures most { result ≤ most_watts }
 {

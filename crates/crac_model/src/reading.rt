@@ -32,7 +32,7 @@ fn crac_at(
     ensures { Gives same result (crac_at (grid_of grid.entry) (at_of at.now)) }
 {
     let word = at.required_text(alloc, "type")?;
-    at.known(alloc, "type", CracKind::WrongType, is_word(word, "CRAC"))?;
+    at.found_or(alloc, "type", CracKind::WrongType, is_word(word, "CRAC"))?;
     let instants = read_instants(alloc, at)?;
     let contingencies = read_contingencies(alloc, grid, at)?;
     let places = contingency_places(alloc, &contingencies)?;

@@ -1,4 +1,4 @@
--- Tables that are joined.
+-- Tables that are joined. Nobody need believe these laws: each has its proof.
 use Rattle.std.proofs.Common.{◌≡◌, ℕ, List, [], ◌∷◌, ◌++◌, refl, sym, ap, ◌∙◌, append_assoc, append-nil}
 use Rattle.csv_rows.specs.Tables.{record_text, table_text}
 

@@ -6,10 +6,10 @@
 
 ghost use Rattle.std.specs.Prelude.{◌≡◌, ◌∷◌, ◌++◌, [], map, true, false, IfOk, OnOk, OnErr};
 ghost use Rattle.csv.specs.Records.{fields_of};
-ghost use Rattle.csv_rows.specs.Rows.{rows_of, rows_left, IsAtRow};
+ghost use Rattle.csv_rows.specs.Rows.{records_in, rows_left, IsAtRow, IsWantOfMemory};
 ghost use Rattle.csv_rows.specs.Tables.{record_text};
 
-use csv::{ByteRecord, Error, Reader, ReaderBuilder, WriterBuilder};
+use csv::{ByteRecord, Error, ErrorKind, Reader, ReaderBuilder, WriterBuilder};
 use std::alloc::{AllocError, Global};
 
 /// The text of one record.
@@ -38,7 +38,7 @@ pub fn put_row(alloc: Global, out: &mut Vec<u8>, fields: &[&[u8]]) -> Result<(),
 /// A reader of the records of the text, at the first of them.
 pub fn rows(alloc: Global, text: &[u8]) -> Reader<&[u8]>
     ensures at_row { IsAtRow result }
-    ensures all { rows_left result ≡ rows_of text.now }
+    ensures all { rows_left result ≡ records_in text.now }
 {
     ReaderBuilder::new()
         .has_headers(false)
@@ -46,16 +46,26 @@ pub fn rows(alloc: Global, text: &[u8]) -> Reader<&[u8]>
         .from_reader(alloc, text)
 }
 
-/// Reads the next record into `row`, or says that none is left. Over a slice there is no other error than want of memory;
-/// whatever the reader below answers is taken for one.
+/// The error of a reader that has no other error than want of memory.
+fn want_of_memory(kind: &ErrorKind) -> AllocError
+    requires { IsWantOfMemory kind.now }
+{
+    match kind {
+        ErrorKind::OutOfMemory | ErrorKind::Io(_) => AllocError,
+        _ => unreachable!(),
+    }
+}
+
+/// Reads the next record into `row`, or says that none is left. A record may have any number of fields, so the one error is
+/// want of memory; an error of input and output, which the contracts of `csv` do not rule out over a slice, is taken for it.
 pub fn next_row(reader: &mut Reader<&[u8]>, row: &mut ByteRecord) -> Result<bool, AllocError>
     requires { IsAtRow reader.old }
     ensures some { IfOk result (λ found. found ≡ true → rows_left reader.old ≡ fields_of row.new ∷ rows_left reader.new) }
     ensures at_row { IfOk result (λ found. found ≡ true → IsAtRow reader.new) }
     ensures none { IfOk result (λ found. found ≡ false → rows_left reader.old ≡ []) }
 {
-    let Ok(found) = reader.read_byte_record(row) else {
-        return Err(AllocError);
-    };
-    Ok(found)
+    match reader.read_byte_record(row) {
+        Ok(found) => Ok(found),
+        Err(e) => Err(want_of_memory(e.kind())),
+    }
 }

@@ -3,10 +3,11 @@ use Rattle.std.proofs.Common.{◌≡◌, ℕ, suc, ◌+◌, ◌<◌, ◌≤◌, 
 use Rattle.std.specs.Option.{option_map_or, option_and_then}
 use Rattle.std.specs.Char.{is_ascii_digit}
 use Rattle.std.proofs.lemmas.Bool.{or_cases, eqb-true, false≢true}
-use Rattle.fb_decimal.specs.Spelling.{is_sign, is_point, is_mark, AreDigits, IsSign, IsFraction, IsPower, IsExponent, IsSpelling, IsFirstBad}
+use Rattle.fb_decimal.specs.Spelling.{is_sign, is_point, is_mark, AreDigits, IsSign, IsFraction, IsExponent, IsSpelling, IsFirstBad}
 use Rattle.fb_decimal.specs.Scan.{part_after, is_end, bad_from}
 use Rattle.fb_decimal.specs.declared.scan.Part.{Part}
 use Rattle.fb_decimal.specs.declared.scan.Part.TheVariants.{Start, Signed, Whole, Point, Fraction, Mark, MarkSigned, Exponent}
+use Rattle.fb_decimal.proofs.Follows.{FollowsFraction, FollowsMark, power_of, fraction_digit, fraction_mark, mark_digit, mark_sign, chosen}
 
 -- ---- what may follow each part
 
@@ -28,22 +29,6 @@ pub record FollowsWhole (text : List ℕ) : Type 0 where
   is_fraction : IsFraction fraction
   is_exponent : IsExponent exponent
   parts : text ≡ whole ++ (fraction ++ exponent)
-
-pub record FollowsFraction (least : ℕ) (text : List ℕ) : Type 0 where
-  digits : List ℕ
-  exponent : List ℕ
-  are_digits : AreDigits digits
-  enough : least ≤ length digits
-  is_exponent : IsExponent exponent
-  parts : text ≡ digits ++ exponent
-
-pub record FollowsMark (text : List ℕ) : Type 0 where
-  sign : List ℕ
-  digits : List ℕ
-  is_sign : IsSign sign
-  are_digits : AreDigits digits
-  some_digit : 0 < length digits
-  parts : text ≡ sign ++ digits
 
 abbrev pub Follows : Part → List ℕ → Type 0
 Follows Start text = IsSpelling text
@@ -79,27 +64,8 @@ whole_digit c cs e f = record { whole = c ∷ f.whole; fraction = f.fraction; ex
 whole_point : (c : ℕ) (cs : List ℕ) → is_point c ≡ true → FollowsFraction 0 cs → FollowsWhole (c ∷ cs)
 whole_point c cs e f = record { whole = []; fraction = c ∷ f.digits; exponent = f.exponent; are_digits = tt; is_fraction = (e, f.are_digits); is_exponent = f.is_exponent; parts = ap (λ (x : List ℕ). c ∷ x) f.parts }
 
-power_of : (c : ℕ) (cs : List ℕ) → is_mark c ≡ true → FollowsMark cs → IsPower c cs
-power_of c cs e f = record { is_mark = e; sign = f.sign; digits = f.digits; is_sign = f.is_sign; are_digits = f.are_digits; some_digit = f.some_digit; parts = f.parts }
-
 whole_mark : (c : ℕ) (cs : List ℕ) → is_mark c ≡ true → FollowsMark cs → FollowsWhole (c ∷ cs)
 whole_mark c cs e f = record { whole = []; fraction = []; exponent = c ∷ cs; are_digits = tt; is_fraction = tt; is_exponent = power_of c cs e f; parts = refl }
-
-fraction_digit : (least : ℕ) (c : ℕ) (cs : List ℕ) → is_ascii_digit c ≡ true → least ≤ 1 → FollowsFraction 0 cs → FollowsFraction least (c ∷ cs)
-fraction_digit least c cs e le f = record { digits = c ∷ f.digits; exponent = f.exponent; are_digits = (e, f.are_digits); enough = omega arith; is_exponent = f.is_exponent; parts = ap (λ (x : List ℕ). c ∷ x) f.parts }
-
-fraction_mark : (c : ℕ) (cs : List ℕ) → is_mark c ≡ true → FollowsMark cs → FollowsFraction 0 (c ∷ cs)
-fraction_mark c cs e f = record { digits = []; exponent = c ∷ cs; are_digits = tt; enough = omega arith; is_exponent = power_of c cs e f; parts = refl }
-
-mark_digit : (c : ℕ) (cs : List ℕ) → is_ascii_digit c ≡ true → AreDigits cs → FollowsMark (c ∷ cs)
-mark_digit c cs e f = record { sign = []; digits = c ∷ cs; is_sign = tt; are_digits = (e, f); some_digit = omega arith; parts = refl }
-
-mark_sign : (c : ℕ) (cs : List ℕ) → is_sign c ≡ true → AreDigits cs × (0 < length cs) → FollowsMark (c ∷ cs)
-mark_sign c cs e f = record { sign = c ∷ []; digits = cs; is_sign = e; are_digits = f.0; some_digit = f.1; parts = refl }
-
-chosen : {X : Type 0} (b : Bool) (x y z : X) → cond b x y ≡ z → ((b ≡ true) × (x ≡ z)) ⊎ ((b ≡ false) × (y ≡ z))
-chosen true x y z e = inl (refl, e)
-chosen false x y z e = inr (refl, e)
 
 -- the part that was come to
 come_to : (part next : Part) (cs : List ℕ) → Some part ≡ Some next → Follows next cs → Follows part cs

@@ -1,5 +1,6 @@
 pub mod Digits
 pub mod Places
+pub mod Follows
 pub mod Grammar
 pub mod Worth
 pub mod Law

@@ -7,7 +7,7 @@
 ghost use Rattle.std.specs.Prelude.{◌≡◌, ◌≢◌, ◌≤◌, ◌++◌, ℕ, [], OnOk, OnErr, nat_abs};
 ghost use Rattle.fb_decimal.specs.Spelling.{IsSpelling, IsFirstBad};
 ghost use Rattle.fb_decimal.specs.Meaning.{greatest};
-ghost use Rattle.fb_decimal.specs.Reading.{ReadsAs, spelled_as, decimal_of};
+ghost use Rattle.fb_decimal.specs.Reading.{ReadsAs, spelled_as, decimal_of, IsByGrammar};
 ghost use Rattle.fb_decimal.specs.Printing.{decimal_text};
 
 use std::alloc::AllocError;
@@ -74,8 +74,9 @@ pub fn read_decimal(text: &str) -> Result<Decimal, DecimalFault>
     ensures empty { text.now ≡ [] → result ≡ Err DecimalFault.Empty }
     ensures bad { (at : ℕ) → text.now ≢ [] → IsFirstBad text.now at → result ≡ Err (DecimalFault.BadCharacter at) }
 
-    // The answer as a function of the text.
+    // The answer as a function of the text, which gives for every text what the grammar says.
     ensures function { result ≡ decimal_of text.now }
+    ensures grammar { IsByGrammar decimal_of }
 {
     read(text.as_bytes())
 }

@@ -1,5 +1,5 @@
 -- What holds of keys that were read.
-use Rattle.std.proofs.Common.{◌≡◌, ℕ, zero, suc, ◌+◌, ◌*◌, ◌^◌, ◌<◌, ◌≤◌, ◌==◌, ◌≢◌, Bool, true, false, cond, inl, inr, ◌⊎◌, ℤ, pos, negsuc, ◌+ℤ◌, ◌<ℤ◌, List, [], ◌∷◌, ◌++◌, length, get_or, map, Option, Some, None, Result, Ok, Err, refl, sym, ap, subst, ◌∙◌, arith}
+use Rattle.std.proofs.Common.{◌≡◌, ℕ, zero, suc, ◌+◌, ◌*◌, ◌^◌, ◌<◌, ◌≤◌, ◌==◌, ◌≢◌, Bool, true, false, cond, inl, inr, ◌⊎◌, ℤ, pos, negsuc, ◌+ℤ◌, List, [], ◌∷◌, ◌++◌, length, get_or, map, Option, Some, None, Result, Ok, Err, refl, sym, ap, subst, ◌∙◌, arith}
 use Rattle.std.specs.Prelude.{◌≤ℤ◌, ◌&&◌, ◌||◌, All, not, codes, int_lt, int_le, nat_lt, nat_abs, sum_by, ⊤}
 use Rattle.std.specs.Option.{option_to_list}
 use Rattle.std.proofs.lemmas.Int.{ints}
@@ -13,8 +13,8 @@ use Rattle.whole_laws.specs.TotalLaws.{total_below-le, total_below-combine, tota
 use Rattle.serde_json.specs.Data.{Data}
 use Rattle.fb_json.specs.Tree.{text_of, decimal_of, length_of}
 use Rattle.json_reading.specs.Place.{in_member}
-use Rattle.json_reading.specs.Reading.{At, fault_here, fault_in, unless, known, given, required, here, spot, optional_array, required_array}
-use Rattle.json_reading.proofs.Kept.{bind_ok, unless_ok, required_array_keeps, optional_array_keeps}
+use Rattle.json_reading.specs.Reading.{At, fault_here, fault_in, refuse_if, found_or, found_or_missing, required, here, spot, optional_array, required_array}
+use Rattle.json_reading.proofs.Kept.{bind_ok, refuse_if_ok, required_array_keeps, optional_array_keeps}
 use Rattle.fb_types.specs.GridRanges.{exchange_of, AreInjections}
 use Rattle.fb_types.specs.declared.grid.Node.{Node}
 use Rattle.fb_types.specs.declared.keys.Weight.{Weight}
@@ -37,43 +37,25 @@ use Rattle.glsk_keys.specs.declared.model.KeyKind.{KeyKind}
 use Rattle.glsk_keys.specs.declared.model.KeyKind.TheVariants.{Missing, WrongType, BadTime, UnknownNode, WrongZone, SharesNot100, EmptyKey, NegativeFactor, OutOfRange, TooMany, TwoSeries}
 use Rattle.glsk_keys.specs.declared.model.Keys.{Keys}
 use Rattle.glsk_keys.proofs.SizeLaws.{sizes_high}
+use Rattle.json_reading.proofs.Tests.{both, not_not, at_most, above, not_below}
 use Rattle.glsk_keys.proofs.PlacingLaws.{length-defaults_from, defaults_placed}
 use Rattle.glsk_keys.proofs.WeightLaws.{AreOf, IsGiven, members_are, listed_are, given_are, block_holds, block_share}
-
--- ---- tests
-not_not : (a : Bool) → not a ≡ false → a ≡ true
-not_not true e = refl
-not_not false e = absurd cc
-
-both : (a b : Bool) → (a && b) ≡ true → (a ≡ true) × (b ≡ true)
-both true true e = (refl, refl)
-both true false e = absurd cc
-both false b e = absurd cc
-
-at_most : (a b : ℤ) → int_le a b ≡ true → a ≤ℤ b
-at_most a b e = grind (arith, ints)
-
-above : (a b : ℤ) → int_le a b ≡ false → b <ℤ a
-above a b e = grind (arith, ints)
-
-not_below : (a b : ℤ) → int_lt a b ≡ false → b ≤ℤ a
-not_below a b e = grind (arith, ints)
 
 -- ---- nodes
 node_ok : (facts : Facts) (zone : ℕ) (at : At KeyKind) (node : ℕ) → node_here facts zone at ≡ Ok node → is_member zone facts.homes node ≡ true
 unfolding node_here
 node_ok facts zone at node e =
     let name = bind_ok (here text_of at) _ node e in
-    let found = bind_ok (known (node_named facts.nodes name.0) (fault_here UnknownNode at)) _ node name.2 in
-    let member = bind_ok (unless (not (is_member zone facts.homes found.0)) (fault_here WrongZone at)) _ node found.2 in
+    let found = bind_ok (found_or (node_named facts.nodes name.0) (fault_here UnknownNode at)) _ node name.2 in
+    let member = bind_ok (refuse_if (not (is_member zone facts.homes found.0)) (fault_here WrongZone at)) _ node found.2 in
     let same : found.0 ≡ node = cc in
-    subst (λ n. is_member zone facts.homes n ≡ true) same (not_not _ (unless_ok (not (is_member zone facts.homes found.0)) at.place WrongZone member.0 member.1))
+    subst (λ n. is_member zone facts.homes n ≡ true) same (not_not _ (refuse_if_ok (not (is_member zone facts.homes found.0)) at.place WrongZone member.0 member.1))
 
 node_in_ok : (facts : Facts) (zone : ℕ) (name : List ℕ) (at : At KeyKind) (node : ℕ) → node_in facts zone name at ≡ Ok node → is_member zone facts.homes node ≡ true
 unfolding node_in
 node_in_ok facts zone name at node e =
     let found = bind_ok (spot name at) _ node e in
-    let there = bind_ok (given name at found.0) _ node found.2 in
+    let there = bind_ok (found_or_missing name at found.0) _ node found.2 in
     node_ok facts zone there.0 node there.2
 
 listed_step : (facts : Facts) (zone : ℕ) (before : List ℕ) (at : At KeyKind) (item : Option ℕ) → listed_node_of facts zone before at ≡ Ok item
@@ -89,10 +71,10 @@ factor_ok : (at : At KeyKind) (factor : ℤ) → factor_of at ≡ Ok factor → 
 unfolding factor_of
 factor_ok at factor e =
     let number = bind_ok (required decimal_of (codes "factor") at) _ factor e in
-    let positive = bind_ok (unless (int_lt number.0.millionths (pos 0)) (fault_in (codes "factor") NegativeFactor at)) _ factor number.2 in
-    let small = bind_ok (unless (int_lt (pos 1000000000000) number.0.millionths) (fault_in (codes "factor") OutOfRange at)) _ factor positive.2 in
+    let positive = bind_ok (refuse_if (int_lt number.0.millionths (pos 0)) (fault_in (codes "factor") NegativeFactor at)) _ factor number.2 in
+    let small = bind_ok (refuse_if (int_lt (pos 1000000000000) number.0.millionths) (fault_in (codes "factor") OutOfRange at)) _ factor positive.2 in
     let same : number.0.millionths ≡ factor = cc in
-    subst (λ z. pos 0 ≤ℤ z) same (not_below number.0.millionths (pos 0) (unless_ok (int_lt number.0.millionths (pos 0)) (in_member at.place (codes "factor")) NegativeFactor positive.0 positive.1))
+    subst (λ z. pos 0 ≤ℤ z) same (not_below number.0.millionths (pos 0) (refuse_if_ok (int_lt number.0.millionths (pos 0)) (in_member at.place (codes "factor")) NegativeFactor positive.0 positive.1))
 
 given_step : (facts : Facts) (zone : ℕ) (before : List Weight) (at : At KeyKind) (item : Option Weight) → weight_of facts zone before at ≡ Ok item
     → All (IsGiven facts.homes zone) before → All (IsGiven facts.homes zone) (before ++ option_to_list item)
@@ -138,17 +120,17 @@ weights_ok : (facts : Facts) (zone : ℕ) (measure : Measure) (at : At KeyKind) 
 unfolding weights_of
 weights_ok facts zone measure at values e =
     let word = bind_ok (required text_of (codes "kind") at) _ values e in
-    let form = bind_ok (known (form_named word.0) (fault_in (codes "kind") WrongType at)) _ values word.2 in
+    let form = bind_ok (found_or (form_named word.0) (fault_in (codes "kind") WrongType at)) _ values word.2 in
     weights_by_ok facts zone measure form.0 at values form.2
 
 share_ok : (at : At KeyKind) (share : ℤ) → share_of at ≡ Ok share → pos 0 ≤ℤ share
 unfolding share_of
 share_ok at share e =
     let number = bind_ok (required decimal_of (codes "share") at) _ share e in
-    let positive = bind_ok (unless (int_lt number.0.millionths (pos 0)) (fault_in (codes "share") NegativeFactor at)) _ share number.2 in
-    let small = bind_ok (unless (int_lt (pos 100000000) number.0.millionths) (fault_in (codes "share") OutOfRange at)) _ share positive.2 in
+    let positive = bind_ok (refuse_if (int_lt number.0.millionths (pos 0)) (fault_in (codes "share") NegativeFactor at)) _ share number.2 in
+    let small = bind_ok (refuse_if (int_lt (pos 100000000) number.0.millionths) (fault_in (codes "share") OutOfRange at)) _ share positive.2 in
     let same : number.0.millionths ≡ share = cc in
-    subst (λ z. pos 0 ≤ℤ z) same (not_below number.0.millionths (pos 0) (unless_ok (int_lt number.0.millionths (pos 0)) (in_member at.place (codes "share")) NegativeFactor positive.0 positive.1))
+    subst (λ z. pos 0 ≤ℤ z) same (not_below number.0.millionths (pos 0) (refuse_if_ok (int_lt number.0.millionths (pos 0)) (in_member at.place (codes "share")) NegativeFactor positive.0 positive.1))
 
 -- ---- blocks
 block_step : (facts : Facts) (zone : ℕ) (before : List Block) (at : At KeyKind) (item : Option Block) → block_of facts zone before at ≡ Ok item
@@ -156,14 +138,14 @@ block_step : (facts : Facts) (zone : ℕ) (before : List Block) (at : At KeyKind
 unfolding block_of
 block_step facts zone before at item e so_far =
     let word = bind_ok (required text_of (codes "business") at) _ item e in
-    let measure = bind_ok (known (business_named word.0) (fault_in (codes "business") WrongType at)) _ item word.2 in
+    let measure = bind_ok (found_or (business_named word.0) (fault_in (codes "business") WrongType at)) _ item word.2 in
     let share = bind_ok (share_of at) _ item measure.2 in
     let weights = bind_ok (weights_of facts zone measure.0 at) _ item share.2 in
-    let some = bind_ok (unless (int_le (total_of weights.0) (pos 0)) (fault_here EmptyKey at)) _ item weights.2 in
-    let few = bind_ok (unless (int_lt (pos 1000000000000) (total_of weights.0)) (fault_here OutOfRange at)) _ item some.2 in
+    let some = bind_ok (refuse_if (int_le (total_of weights.0) (pos 0)) (fault_here EmptyKey at)) _ item weights.2 in
+    let few = bind_ok (refuse_if (int_lt (pos 1000000000000) (total_of weights.0)) (fault_here OutOfRange at)) _ item some.2 in
     let is : Some (block_with share.0 weights.0) ≡ item = cc in
-    let low = above (total_of weights.0) (pos 0) (unless_ok (int_le (total_of weights.0) (pos 0)) at.place EmptyKey some.0 some.1) in
-    let high = not_below (pos 1000000000000) (total_of weights.0) (unless_ok (int_lt (pos 1000000000000) (total_of weights.0)) at.place OutOfRange few.0 few.1) in
+    let low = above (total_of weights.0) (pos 0) (refuse_if_ok (int_le (total_of weights.0) (pos 0)) at.place EmptyKey some.0 some.1) in
+    let high = not_below (pos 1000000000000) (total_of weights.0) (refuse_if_ok (int_lt (pos 1000000000000) (total_of weights.0)) at.place OutOfRange few.0 few.1) in
     subst (λ (o : Option Block). All (IsBlock facts.homes zone) (before ++ option_to_list o)) is
     (All-push (IsBlock facts.homes zone) before (block_with share.0 weights.0) so_far
     (block_holds facts.homes zone share.0 weights.0 (share_ok at share.0 share.1) (weights_ok facts zone measure.0 at weights.0 weights.1) (omega (arith, ints, low)) high))
@@ -176,12 +158,12 @@ blocks_ok : (facts : Facts) (zone : ℕ) (at : At KeyKind) (blocks : List Block)
 unfolding blocks_of
 blocks_ok facts zone at blocks e =
     let count = bind_ok (required length_of (codes "blocks") at) _ blocks e in
-    let some = bind_ok (unless (count.0 == 0) (fault_in (codes "blocks") Missing at)) _ blocks count.2 in
-    let few = bind_ok (unless (nat_lt 4 count.0) (fault_in (codes "blocks") TooMany at)) _ blocks some.2 in
+    let some = bind_ok (refuse_if (count.0 == 0) (fault_in (codes "blocks") Missing at)) _ blocks count.2 in
+    let few = bind_ok (refuse_if (nat_lt 4 count.0) (fault_in (codes "blocks") TooMany at)) _ blocks some.2 in
     let read = bind_ok (required_array (block_of facts zone) (codes "blocks") at) _ blocks few.2 in
-    let whole = bind_ok (unless (not (are_whole read.0)) (fault_in (codes "blocks") SharesNot100 at)) _ blocks read.2 in
+    let whole = bind_ok (refuse_if (not (are_whole read.0)) (fault_in (codes "blocks") SharesNot100 at)) _ blocks read.2 in
     let is : read.0 ≡ blocks = cc in
-    let ends = both (int_le (shares_of read.0) (pos 100000000)) (int_le (pos 100000000) (shares_of read.0)) (not_not (are_whole read.0) (unless_ok (not (are_whole read.0)) (in_member at.place (codes "blocks")) SharesNot100 whole.0 whole.1)) in
+    let ends = both (int_le (shares_of read.0) (pos 100000000)) (int_le (pos 100000000) (shares_of read.0)) (not_not (are_whole read.0) (refuse_if_ok (not (are_whole read.0)) (in_member at.place (codes "blocks")) SharesNot100 whole.0 whole.1)) in
     let high = at_most (shares_of read.0) (pos 100000000) ends.0 in
     let low = at_most (pos 100000000) (shares_of read.0) ends.1 in
     subst (BlocksHold facts.homes zone) is (record {
@@ -202,7 +184,7 @@ matching_step : (facts : Facts) (zone : ℕ) (before : List Column) (at : At Key
     → All (SeriesHolds facts.homes) before → All (SeriesHolds facts.homes) (before ++ option_to_list item)
 unfolding matching_of
 matching_step facts zone before at item e so_far =
-    let only = bind_ok (unless (has_series zone before) (fault_here TwoSeries at)) _ item e in
+    let only = bind_ok (refuse_if (has_series zone before) (fault_here TwoSeries at)) _ item e in
     let blocks = bind_ok (blocks_of facts zone at) _ item only.2 in
     let c : Column = record { zone = zone; blocks = blocks.0 } in
     let is : Some c ≡ item = cc in

@@ -1,5 +1,5 @@
 -- Scaled blocks.
-use Rattle.std.proofs.Common.{◌≡◌, ℕ, zero, suc, ◌+◌, ◌-◌, ◌*◌, ◌/◌, ◌^◌, ◌<◌, ◌≤◌, Bool, true, false, inl, inr, ◌⊎◌, ℤ, pos, negsuc, ◌*ℤ◌, ◌<ℤ◌, List, [], ◌∷◌, ◌++◌, length, drop, get_or, refl, sym, ap, subst, ◌∙◌, arith, cond}
+use Rattle.std.proofs.Common.{◌≡◌, ℕ, zero, suc, ◌+◌, ◌-◌, ◌*◌, ◌/◌, ◌^◌, ◌<◌, ◌≤◌, Bool, true, false, inl, inr, ℤ, pos, negsuc, ◌*ℤ◌, ◌<ℤ◌, List, [], ◌∷◌, ◌++◌, length, drop, get_or, refl, sym, ap, subst, ◌∙◌, arith, cond}
 use Rattle.std.proofs.Math.Nat.{pow-suc, one-le-pow, pow-le-pow_right}
 use mir.Syntax.{w64, w128}
 use mir.Val.{SFits, to_z, of_z}
@@ -9,19 +9,16 @@ use Rattle.std.proofs.lemmas.Int.{ints, to_z-of_z}
 use Rattle.std.proofs.lemmas.List.{at_drop_more, at_drop_all, append_assoc, append-nil}
 use Rattle.std.proofs.lemmas.List.Elements.{All-head, All-tail}
 use Rattle.fb_types.specs.declared.keys.Weight.{Weight}
-use Rattle.whole_laws.specs.Ring.{linear, scale-≤, *ℤ_assoc}
+use Rattle.whole_laws.specs.Ring.{linear, scale-≤}
 use Rattle.whole_laws.specs.Sums.{IsWithin}
 use Rattle.whole_laws.specs.SumLaws.{sum_over-nonnegative}
 use Rattle.glsk_keys.specs.Measures.{itself, total_of}
-use Rattle.glsk_keys.specs.Scaling.{power_up_to, IsScale, weights_from}
+use Rattle.json_reading.proofs.Tests.{at_most, above}
+use Rattle.glsk_keys.specs.ScaleFound.{power_up_to, either, taken, passed}
+use Rattle.glsk_keys.specs.Scales.{IsScale}
+use Rattle.glsk_keys.specs.Scaling.{weights_from}
 
 -- ---- tests
-at_most : (a b : ℤ) → int_le a b ≡ true → a ≤ℤ b
-at_most a b e = grind (arith, ints)
-
-above : (a b : ℤ) → int_le a b ≡ false → b <ℤ a
-above a b e = grind (arith, ints)
-
 pub at_most_test : (a b : ℤ) → IsTrue (int_le a b) ↔ (a ≤ℤ b)
 at_most_test a b = (λ t. grind (arith, ints), λ h. grind (arith, ints))
 
@@ -38,42 +35,9 @@ fits_64 m (pos n) h l = let k : n ≤ m = omega (arith, ints, h.high) in record 
 fits_64 m (negsuc n) h l = let k : suc n ≤ m = omega (arith, ints, h.low) in record { sfits = omega (arith, ints) }
 
 -- ---- powers
-pub taken : (e : ℕ) (total : ℤ) → (pos (10 ^ suc e) *ℤ total) ≤ℤ pos (10 ^ 12) → power_up_to (suc e) total ≡ pos (10 ^ suc e)
-unfolding power_up_to
-taken e total h =
-    let t : int_le (pos (10 ^ suc e) *ℤ total) (pos (10 ^ 12)) ≡ true = grind (arith, ints) in
-    ap (λ (b : Bool). cond b (pos (10 ^ suc e)) (power_up_to e total)) t
-
-pub passed : (e : ℕ) (total : ℤ) → pos (10 ^ 12) <ℤ (pos (10 ^ suc e) *ℤ total) → power_up_to (suc e) total ≡ power_up_to e total
-unfolding power_up_to
-passed e total h =
-    let t : int_le (pos (10 ^ suc e) *ℤ total) (pos (10 ^ 12)) ≡ false = grind (arith, ints) in
-    ap (λ (b : Bool). cond b (pos (10 ^ suc e)) (power_up_to e total)) t
-
-either : (a b : ℤ) → (a ≤ℤ b) ⊎ (b <ℤ a)
-either a b = by_test (int_le a b) refl
-  where
-    by_test : (t : Bool) → int_le a b ≡ t → (a ≤ℤ b) ⊎ (b <ℤ a)
-    by_test true e = inl (at_most a b e)
-    by_test false e = inr (above a b e)
-
 -- a test that failed
 pub over_test : (a b : ℤ) (t : Bool) → t ≡ false → (IsTrue t → a ≤ℤ b) × (a ≤ℤ b → IsTrue t) → b <ℤ a
 over_test a b t e h = elim (either a b) [ inl k ↦ absurd (cc (h.1 k, e)) | inr l ↦ l ]
-
-scale_up_to : (e : ℕ) (total : ℤ) → total ≤ℤ pos (10 ^ 12) → pos (10 ^ 12) <ℤ (pos (10 ^ suc e) *ℤ total) → IsScale total (power_up_to e total)
-unfolding power_up_to
-scale_up_to zero total h g = record { exponent = 0; of_ten = refl; fits = omega (arith, ints); greatest = omega (arith, ints) }
-scale_up_to (suc e) total h g = elim (either (pos (10 ^ suc e) *ℤ total) (pos (10 ^ 12))) [ inl f ↦ subst (IsScale total) (sym (taken e total f)) (here f) | inr o ↦ subst (IsScale total) (sym (passed e total o)) (scale_up_to e total h o) ]
-  where
-    here : (pos (10 ^ suc e) *ℤ total) ≤ℤ pos (10 ^ 12) → IsScale total (pos (10 ^ suc e))
-    here f = record { exponent = suc e; of_ten = refl; fits = f; greatest = more }
-      where
-        more : pos (10 ^ 12) <ℤ (pos 10 *ℤ (pos (10 ^ suc e) *ℤ total))
-        more =
-            let q : pos (10 ^ suc (suc e)) ≡ pos 10 *ℤ pos (10 ^ suc e) = omega (arith, ints, pow-suc 10 (suc e)) in
-            let r : (pos 10 *ℤ pos (10 ^ suc e)) *ℤ total ≡ pos 10 *ℤ (pos (10 ^ suc e) *ℤ total) = *ℤ_assoc (pos 10) (pos (10 ^ suc e)) total in
-            subst (λ z. pos (10 ^ 12) <ℤ z) (ap (λ z. z *ℤ total) q ∙ r) g
 
 -- one step of the search
 pub power_step : (i : ℕ) (power total : ℤ) → i < 12 → pos (10 ^ 12) <ℤ (power *ℤ total) → power ≡ pos (10 ^ (12 - i)) → power_up_to (12 - i) total ≡ power_up_to 12 total
@@ -111,9 +75,6 @@ divided power n e l =
     let f : SFits w128 (pos (n / 10)) = record { sfits = omega (arith, ints) } in
     let q : quot_z power (pos 10) ≡ pos (n / 10) = rw e refl in
     rw q (to_z-of_z w128 _ f)
-
-pub scale_for : (total : ℤ) → pos 1 ≤ℤ total → total ≤ℤ pos (10 ^ 12) → IsScale total (power_up_to 12 total)
-scale_for total p h = scale_up_to 12 total h (omega (arith, ints))
 
 pub scale_some : (total power : ℤ) → IsScale total power → pos 1 ≤ℤ power
 scale_some total power s =

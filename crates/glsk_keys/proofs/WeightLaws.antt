@@ -15,7 +15,8 @@ use Rattle.glsk_keys.specs.Measures.{values_of, part_at, factor_at, factors_of, 
 use Rattle.glsk_keys.specs.Scaling.{power_for, weights_from, block_with}
 use Rattle.glsk_keys.specs.Laws.{number, IsWeight, IsBlock}
 use Rattle.glsk_keys.specs.declared.measures.Measure.{Measure}
-use Rattle.glsk_keys.proofs.ScalingLaws.{scale_for, scale_some}
+use Rattle.glsk_keys.specs.ScaleFound.{scale_for}
+use Rattle.glsk_keys.proofs.ScalingLaws.{scale_some}
 use Rattle.glsk_keys.proofs.SizeLaws.{values_low}
 
 -- ---- members

@@ -8,7 +8,7 @@ use Rattle.fb_types.specs.declared.grid.Node.{Node}
 use Rattle.fb_types.specs.declared.keys.Weight.{Weight}
 use Rattle.fb_types.specs.declared.keys.Block.{Block}
 use Rattle.fb_types.specs.declared.keys.Column.{Column}
-use Rattle.json_reading.specs.Reading.{At, Reading, ◌>>=◌, fault_here, fault_in, unless, known, given, required, here, spot, optional_array, required_array}
+use Rattle.json_reading.specs.Reading.{At, Reading, ◌>>=◌, fault_here, fault_in, refuse_if, found_or, found_or_missing, required, here, spot, optional_array, required_array}
 use Rattle.run_settings.specs.Nodes.{node_named}
 use Rattle.run_settings.specs.Times.{moment_of}
 use Rattle.run_settings.specs.declared.model.Zone.{Zone}
@@ -38,14 +38,14 @@ pub record Facts : Type 0 where
 unfoldable pub node_here : Facts → ℕ → At KeyKind → Read ℕ
 node_here facts zone at = do
   name ← here text_of at
-  node ← known (node_named facts.nodes name) (fault_here UnknownNode at)
-  member ← unless (not (is_member zone facts.homes node)) (fault_here WrongZone at)
+  node ← found_or (node_named facts.nodes name) (fault_here UnknownNode at)
+  member ← refuse_if (not (is_member zone facts.homes node)) (fault_here WrongZone at)
   Ok node
 
 unfoldable pub node_in : Facts → ℕ → List ℕ → At KeyKind → Read ℕ
 node_in facts zone name at = do
   found ← spot name at
-  there ← given name at found
+  there ← found_or_missing name at found
   node_here facts zone there
 
 -- a node in a list of codes
@@ -58,8 +58,8 @@ listed_node_of facts zone before at = do
 unfoldable pub factor_of : At KeyKind → Read ℤ
 factor_of at = do
   factor ← required decimal_of (codes "factor") at
-  positive ← unless (int_lt factor.millionths (pos 0)) (fault_in (codes "factor") NegativeFactor at)
-  small ← unless (int_lt (pos 1000000000000) factor.millionths) (fault_in (codes "factor") OutOfRange at)
+  positive ← refuse_if (int_lt factor.millionths (pos 0)) (fault_in (codes "factor") NegativeFactor at)
+  small ← refuse_if (int_lt (pos 1000000000000) factor.millionths) (fault_in (codes "factor") OutOfRange at)
   Ok factor.millionths
 
 -- a node with its factor
@@ -101,7 +101,7 @@ form_named word =
 unfoldable pub weights_of : Facts → ℕ → Measure → At KeyKind → Read (List ℤ)
 weights_of facts zone measure at = do
   word ← required text_of (codes "kind") at
-  form ← known (form_named word) (fault_in (codes "kind") WrongType at)
+  form ← found_or (form_named word) (fault_in (codes "kind") WrongType at)
   weights_by facts zone measure form at
 
 -- a key of generation, or of load
@@ -112,18 +112,18 @@ business_named word = if bytes_eq word (codes "GSK") then Some Generation else (
 unfoldable pub share_of : At KeyKind → Read ℤ
 share_of at = do
   share ← required decimal_of (codes "share") at
-  positive ← unless (int_lt share.millionths (pos 0)) (fault_in (codes "share") NegativeFactor at)
-  small ← unless (int_lt (pos 100000000) share.millionths) (fault_in (codes "share") OutOfRange at)
+  positive ← refuse_if (int_lt share.millionths (pos 0)) (fault_in (codes "share") NegativeFactor at)
+  small ← refuse_if (int_lt (pos 100000000) share.millionths) (fault_in (codes "share") OutOfRange at)
   Ok share.millionths
 
 unfoldable pub block_of : Facts → ℕ → List Block → At KeyKind → Read (Option Block)
 block_of facts zone before at = do
   word ← required text_of (codes "business") at
-  measure ← known (business_named word) (fault_in (codes "business") WrongType at)
+  measure ← found_or (business_named word) (fault_in (codes "business") WrongType at)
   share ← share_of at
   weights ← weights_of facts zone measure at
-  some ← unless (int_le (total_of weights) (pos 0)) (fault_here EmptyKey at)
-  few ← unless (int_lt (pos 1000000000000) (total_of weights)) (fault_here OutOfRange at)
+  some ← refuse_if (int_le (total_of weights) (pos 0)) (fault_here EmptyKey at)
+  few ← refuse_if (int_lt (pos 1000000000000) (total_of weights)) (fault_here OutOfRange at)
   Ok (Some (block_with share weights))
 
 abbrev pub shares_of : List Block → ℤ
@@ -136,10 +136,10 @@ are_whole blocks = int_le (shares_of blocks) (pos 100000000) && int_le (pos 1000
 unfoldable pub blocks_of : Facts → ℕ → At KeyKind → Read (List Block)
 blocks_of facts zone at = do
   count ← required length_of (codes "blocks") at
-  some ← unless (count == 0) (fault_in (codes "blocks") Missing at)
-  few ← unless (nat_lt 4 count) (fault_in (codes "blocks") TooMany at)
+  some ← refuse_if (count == 0) (fault_in (codes "blocks") Missing at)
+  few ← refuse_if (nat_lt 4 count) (fault_in (codes "blocks") TooMany at)
   blocks ← required_array (block_of facts zone) (codes "blocks") at
-  whole ← unless (not (are_whole blocks)) (fault_in (codes "blocks") SharesNot100 at)
+  whole ← refuse_if (not (are_whole blocks)) (fault_in (codes "blocks") SharesNot100 at)
   Ok blocks
 
 -- ---- series
@@ -154,7 +154,7 @@ has_series zone columns = list_any (is_of zone) columns
 -- a series that matches the moment
 unfoldable pub matching_of : Facts → ℕ → List Column → At KeyKind → Read (Option Column)
 matching_of facts zone before at = do
-  only ← unless (has_series zone before) (fault_here TwoSeries at)
+  only ← refuse_if (has_series zone before) (fault_here TwoSeries at)
   blocks ← blocks_of facts zone at
   Ok (Some (record { zone = zone; blocks = blocks }))
 

@@ -1,4 +1,4 @@
--- What the code knows.
+-- What the code knows. Nobody need believe these words: they are of private contracts.
 use Rattle.glsk_keys.specs.Document.{Facts}
 use Rattle.glsk_keys.specs.declared.known.Known.{Known}
 

@@ -1,5 +1,7 @@
 pub mod Zones
 pub mod Measures
+pub mod Scales
+pub mod ScaleFound
 pub mod Scaling
 pub mod Sizes
 pub mod Document

@@ -11,7 +11,7 @@ ghost use Rattle.glsk_keys.specs.Sizes.{AreSmall, AreWeights, IsShare};
 use crate::known::Known;
 use crate::measures::{Measure, factors, total, values};
 use crate::model::KeyKind;
-use crate::nodes::{NodeReader, WeightReader, listed, members};
+use crate::nodes::{NodeReader, WeightReader, listed_marks, members};
 use crate::scaling::{MOST, block_with};
 use fb_types::Block;
 use json_reading::{Here, ItemReader, ReadError, optional_array, required_array};
@@ -58,7 +58,7 @@ fn chosen_of(
 {
     match places {
         None => members(alloc, zone, known.homes),
-        Some(places) => listed(alloc, known.nodes.len(), &places),
+        Some(places) => listed_marks(alloc, known.nodes.len(), &places),
     }
 }
 
@@ -129,7 +129,7 @@ fn weights_of(
     ensures none_below { IfOk result (λ v. AreWeights v.items) }
 {
     let word = at.required_text(alloc, "kind")?;
-    let form = at.known(alloc, "kind", KeyKind::WrongType, form_named(word))?;
+    let form = at.found_or(alloc, "kind", KeyKind::WrongType, form_named(word))?;
     weights_by(alloc, known, zone, measure, form, at)
 }
 
@@ -186,7 +186,7 @@ impl<'a> ItemReader for BlockReader<'a> {
         at: &Here<'_, KeyKind>,
     ) -> Result<Option<Block>, ReadError<KeyKind>> {
         let word = at.required_text(alloc, "business")?;
-        let measure = at.known(alloc, "business", KeyKind::WrongType, business_named(word))?;
+        let measure = at.found_or(alloc, "business", KeyKind::WrongType, business_named(word))?;
         let share = share_of(alloc, at)?;
         let weights = weights_of(alloc, self.known, self.zone, measure, at)?;
         let total = total(&weights);

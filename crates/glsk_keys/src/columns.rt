@@ -89,7 +89,7 @@ fn defaults(alloc: Global, known: &Known<'_>) -> Result<Vec<Column>, AllocError>
 }
 
 /// The columns, where a zone with a series has the column of that.
-fn placed(defaults: Vec<Column>, series: Vec<Column>) -> Vec<Column>
+fn place_series(defaults: Vec<Column>, series: Vec<Column>) -> Vec<Column>
     requires { ArePlaced defaults.items }
     ensures { result.items ≡ map (column_or series.items) defaults.items }
 {
@@ -113,7 +113,7 @@ pub fn columns(
 ) -> Result<Vec<Column>, AllocError>
     ensures { IfOk result (λ v. v.items ≡ columns_of (facts_of known.now) series.items) }
 {
-    Ok(placed(defaults(alloc, known)?, series))
+    Ok(place_series(defaults(alloc, known)?, series))
 }
 
 /// What each zone feeds in, in watts.

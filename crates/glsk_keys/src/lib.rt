@@ -19,8 +19,6 @@ mod model;
 mod nodes;
 mod scaling;
 mod series;
-#[cfg(test)]
-mod tests;
 
 use document::keys_at;
 use fb_json::Doc;

@@ -46,8 +46,8 @@ pub fn members(alloc: Global, zone: u32, homes: &[Option<u32>]) -> Result<Vec<bo
 }
 
 /// For each of so many nodes, whether it is listed.
-pub fn listed(alloc: Global, count: usize, places: &[u32]) -> Result<Vec<bool>, AllocError>
-    ensures listed { IfOk result (λ v. v.items ≡ listed_of count places.now) }
+pub fn listed_marks(alloc: Global, count: usize, places: &[u32]) -> Result<Vec<bool>, AllocError>
+    ensures marks { IfOk result (λ v. v.items ≡ listed_of count places.now) }
     ensures each { IfOk result (λ v. length v.items ≡ count) }
 {
     let mut listed = vec![in alloc; false; count]?;
@@ -73,7 +73,7 @@ fn node_here(
 {
     let name = at.text(alloc)?;
     let found = known.table.find(alloc, name)?;
-    let node = at.known_here(alloc, KeyKind::UnknownNode, found)?;
+    let node = at.found_or_here(alloc, KeyKind::UnknownNode, found)?;
     if !is_member(zone, known.homes, node) {
         return Err(at.fault(alloc, KeyKind::WrongZone));
     }

@@ -4,7 +4,8 @@ ghost use Rattle.std.specs.Prelude.{◌≡◌, ◌≤◌, ◌^◌, ℤ, pos, ◌
 ghost use Rattle.whole_laws.specs.Sums.{IsWithin};
 ghost use Rattle.std.specs.Int.{w64};
 ghost use Rattle.glsk_keys.specs.Measures.{total_of};
-ghost use Rattle.glsk_keys.specs.Scaling.{power_up_to, power_for, IsScale, weights_from, block_with};
+ghost use Rattle.glsk_keys.specs.Scales.{IsScale};
+ghost use Rattle.glsk_keys.specs.Scaling.{power_for, weights_from, block_with};
 ghost use Rattle.glsk_keys.specs.Sizes.{AreWeights};
 
 use fb_types::{Block, Items, Weight};
@@ -40,7 +41,7 @@ fn power_for(total: i128) -> i128
 }
 
 /// A weight times the power.
-fn scaled(power: i128, weight: i128) -> i64
+fn scaled_weight(power: i128, weight: i128) -> i64
     requires { FitsSigned w64 (power *ℤ weight) }
     ensures { result ≡ power *ℤ weight }
 {
@@ -62,7 +63,7 @@ fn weights(alloc: Global, power: i128, values: &[i128]) -> Result<Vec<Weight>, A
         }
         weights.push(Weight {
             node: place as u32,
-            weight: scaled(power, *value),
+            weight: scaled_weight(power, *value),
         })?;
     }
     Ok(weights)
@@ -88,7 +89,7 @@ pub fn block_with(
     let weights = weights(alloc, power, values)?;
     Ok(Block {
         share,
-        total: scaled(power, total),
+        total: scaled_weight(power, total),
         weights: Items::from_vec(weights),
     })
 }

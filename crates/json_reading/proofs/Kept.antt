@@ -7,48 +7,48 @@ use Rattle.fb_json.specs.Tree.{length_of}
 use Rattle.fb_json.specs.declared.document.Got.{Got}
 use Rattle.fb_json.specs.declared.document.Got.TheVariants.{Absent, Wrong, Value}
 use Rattle.json_reading.specs.Place.{in_member}
-use Rattle.json_reading.specs.Reading.{Fault, At, ◌>>=◌, refuse, unless, known, member, form_read, formed, given, optional, required, spot, entries_of, list_of, spots_from, each, each_read, array, array_if, optional_array, required_array}
+use Rattle.json_reading.specs.Reading.{Fault, At, ◌>>=◌, refuse, refuse_if, found_or, member, form_read, form_of, found_or_missing, optional, required, spot, entries_of, list_of, spots_from, each, each_read, array, array_if, optional_array, required_array}
 use Rattle.json_reading.proofs.Entries.{counted}
 
 pub bind_ok : {K A B : Type 0} (r : Result A (Fault K)) (f : A → Result B (Fault K)) (y : B) → (r >>= f) ≡ Ok y → (x : A) × (r ≡ Ok x) × (f x ≡ Ok y)
 bind_ok (Ok x) f y e = (x, refl, e)
 bind_ok (Err k) f y e = absurd cc
 
-pub unless_ok : {K : Type 0} (test : Bool) (place : List ℕ) (kind : K) (t : ⊤) → unless test (refuse place kind) ≡ Ok t → test ≡ false
-unless_ok true place kind t e = absurd cc
-unless_ok false place kind t e = refl
+pub refuse_if_ok : {K : Type 0} (test : Bool) (place : List ℕ) (kind : K) (t : ⊤) → refuse_if test (refuse place kind) ≡ Ok t → test ≡ false
+refuse_if_ok true place kind t e = absurd cc
+refuse_if_ok false place kind t e = refl
 
-pub known_ok : {K B : Type 0} (found : Option B) (place : List ℕ) (kind : K) (x : B) → known found (refuse place kind) ≡ Ok x → found ≡ Some x
-known_ok None place kind x e = absurd cc
-known_ok (Some y) place kind x e = cc
+pub found_or_ok : {K B : Type 0} (found : Option B) (place : List ℕ) (kind : K) (x : B) → found_or found (refuse place kind) ≡ Ok x → found ≡ Some x
+found_or_ok None place kind x e = absurd cc
+found_or_ok (Some y) place kind x e = cc
 
 -- ---- members
 
-formed_ok : {K B : Type 0} (name : List ℕ) (at : At K) (got : Got B) (x : B) → form_read name at got ≡ Ok (Some x) → got ≡ Value x
-formed_ok name at Absent x e = absurd cc
-formed_ok name at Wrong x e = absurd cc
-formed_ok name at (Value y) x e = cc
+form_of_ok : {K B : Type 0} (name : List ℕ) (at : At K) (got : Got B) (x : B) → form_read name at got ≡ Ok (Some x) → got ≡ Value x
+form_of_ok name at Absent x e = absurd cc
+form_of_ok name at Wrong x e = absurd cc
+form_of_ok name at (Value y) x e = cc
 
-member_ok : {K B : Type 0} (form : Data → Got B) (name : List ℕ) (at : At K) (found : Option Data) (x : B) → formed form name at found ≡ Ok (Some x) → (d : Data) × (found ≡ Some d) × (form d ≡ Value x)
+member_ok : {K B : Type 0} (form : Data → Got B) (name : List ℕ) (at : At K) (found : Option Data) (x : B) → form_of form name at found ≡ Ok (Some x) → (d : Data) × (found ≡ Some d) × (form d ≡ Value x)
 member_ok form name at None x e = absurd cc
-member_ok form name at (Some d) x e = (d, refl, formed_ok name at (form d) x e)
+member_ok form name at (Some d) x e = (d, refl, form_of_ok name at (form d) x e)
 
 pub optional_ok : {K B : Type 0} (form : Data → Got B) (name : List ℕ) (at : At K) (x : B) → optional form name at ≡ Ok (Some x) → (d : Data) × (member name at ≡ Ok (Some d)) × (form d ≡ Value x)
 unfolding optional
 optional_ok form name at x e =
-    let h = bind_ok (member name at) (λ found. formed form name at found) (Some x) e in
+    let h = bind_ok (member name at) (λ found. form_of form name at found) (Some x) e in
     let g = member_ok form name at h.0 x h.2 in
     (g.0, h.1 ∙ ap Ok g.1, g.2)
 
-given_ok : {K B : Type 0} (name : List ℕ) (at : At K) (found : Option B) (x : B) → given name at found ≡ Ok x → found ≡ Some x
-given_ok name at None x e = absurd cc
-given_ok name at (Some y) x e = cc
+found_or_missing_ok : {K B : Type 0} (name : List ℕ) (at : At K) (found : Option B) (x : B) → found_or_missing name at found ≡ Ok x → found ≡ Some x
+found_or_missing_ok name at None x e = absurd cc
+found_or_missing_ok name at (Some y) x e = cc
 
 pub required_ok : {K B : Type 0} (form : Data → Got B) (name : List ℕ) (at : At K) (x : B) → required form name at ≡ Ok x → (d : Data) × (member name at ≡ Ok (Some d)) × (form d ≡ Value x)
 unfolding required
 required_ok form name at x e =
-    let h = bind_ok (optional form name at) (λ found. given name at found) x e in
-    optional_ok form name at x (h.1 ∙ ap Ok (given_ok name at h.0 x h.2))
+    let h = bind_ok (optional form name at) (λ found. found_or_missing name at found) x e in
+    optional_ok form name at x (h.1 ∙ ap Ok (found_or_missing_ok name at h.0 x h.2))
 
 -- ---- arrays
 
@@ -94,8 +94,8 @@ optional_array_keeps P read step name at items p e =
 given_array : {K B : Type 0} (read : List B → At K → Result (Option B) (Fault K)) (name : List ℕ) (at : At K) (items : List B) → required_array read name at ≡ Ok items → optional_array read name at ≡ Ok (Some items)
 unfolding required_array
 given_array read name at items e =
-    let h = bind_ok (optional_array read name at) (λ found. given name at found) items e in
-    h.1 ∙ ap Ok (given_ok name at h.0 items h.2)
+    let h = bind_ok (optional_array read name at) (λ found. found_or_missing name at found) items e in
+    h.1 ∙ ap Ok (found_or_missing_ok name at h.0 items h.2)
 
 pub required_array_keeps : {K B : Type 0} (P : List B → Type 0) (read : List B → At K → Result (Option B) (Fault K))
     → ((before : List B) (at : At K) (item : Option B) → read before at ≡ Ok item → P before → P (before ++ option_to_list item))

@@ -1,4 +1,4 @@
--- The spot that a reader of the code stands at.
+-- The spot that a reader of the code stands at. Nobody need believe these words: they are of contracts inside readers.
 use Rattle.fb_json.specs.Spots.{spot_tree}
 use Rattle.json_reading.specs.Reading.{At}
 use Rattle.json_reading.specs.declared.here.Here.{Here}

@@ -1,4 +1,5 @@
 -- What a reader of the code returns, against the reading that it is to give.
+-- Nobody need believe these words: they are of contracts inside readers.
 use Rattle.std.specs.Prelude.{◌≡◌, ℕ, List, Result, Ok, Err}
 use Rattle.json_reading.specs.Reading.{Fault}
 use Rattle.json_reading.specs.declared.fault.ReadError.{ReadError}

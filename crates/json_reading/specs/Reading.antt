@@ -42,14 +42,14 @@ abbrev pub fault_in : {K A : Type 0} → List ℕ → K → At K → Result A (F
 fault_in name kind at = refuse (in_member at.place name) kind
 
 -- a check: where the test holds, this fault
-abbrev pub unless : {K : Type 0} → Bool → Result ⊤ (Fault K) → Result ⊤ (Fault K)
-unless true fault = fault
-unless false fault = Ok tt
+abbrev pub refuse_if : {K : Type 0} → Bool → Result ⊤ (Fault K) → Result ⊤ (Fault K)
+refuse_if true fault = fault
+refuse_if false fault = Ok tt
 
 -- what was looked up, or this fault
-abbrev pub known : {K B : Type 0} → Option B → Result B (Fault K) → Result B (Fault K)
-known None fault = fault
-known (Some x) fault = Ok x
+abbrev pub found_or : {K B : Type 0} → Option B → Result B (Fault K) → Result B (Fault K)
+found_or None fault = fault
+found_or (Some x) fault = Ok x
 
 -- ---- members
 
@@ -67,21 +67,21 @@ form_read name at Absent = fault_in name at.wrong at
 form_read name at Wrong = fault_in name at.wrong at
 form_read name at (Value x) = Ok (Some x)
 
-abbrev pub formed : {K B : Type 0} → (Data → Got B) → List ℕ → At K → Option Data → Result (Option B) (Fault K)
-formed form name at None = Ok None
-formed form name at (Some d) = form_read name at (form d)
+abbrev pub form_of : {K B : Type 0} → (Data → Got B) → List ℕ → At K → Option Data → Result (Option B) (Fault K)
+form_of form name at None = Ok None
+form_of form name at (Some d) = form_read name at (form d)
 
 -- a member of this form, if it is there
 unfoldable pub optional : {K B : Type 0} → (Data → Got B) → List ℕ → At K → Result (Option B) (Fault K)
-optional form name at = member name at >>= λ found. formed form name at found
+optional form name at = member name at >>= λ found. form_of form name at found
 
-abbrev pub given : {K B : Type 0} → List ℕ → At K → Option B → Result B (Fault K)
-given name at None = fault_in name at.missing at
-given name at (Some x) = Ok x
+abbrev pub found_or_missing : {K B : Type 0} → List ℕ → At K → Option B → Result B (Fault K)
+found_or_missing name at None = fault_in name at.missing at
+found_or_missing name at (Some x) = Ok x
 
 -- a member of this form, which must be there
 unfoldable pub required : {K B : Type 0} → (Data → Got B) → List ℕ → At K → Result B (Fault K)
-required form name at = optional form name at >>= λ found. given name at found
+required form name at = optional form name at >>= λ found. found_or_missing name at found
 
 -- the spot of a member, of any form
 unfoldable pub spot : {K : Type 0} → List ℕ → At K → Result (Option (At K)) (Fault K)
@@ -155,4 +155,4 @@ unfoldable pub optional_array : {K B : Type 0} → (List B → At K → Result (
 optional_array read name at = spot name at >>= λ found. array_if read found
 
 unfoldable pub required_array : {K B : Type 0} → (List B → At K → Result (Option B) (Fault K)) → List ℕ → At K → Result (List B) (Fault K)
-required_array read name at = optional_array read name at >>= λ found. given name at found
+required_array read name at = optional_array read name at >>= λ found. found_or_missing name at found

@@ -5,7 +5,7 @@ ghost use Rattle.std.specs.Option.{option_map};
 ghost use Rattle.fb_json.specs.Tree.{text_of, decimal_of, truth_of, length_of};
 ghost use Rattle.fb_json.specs.Spots.{spot_tree};
 ghost use Rattle.json_reading.specs.Place.{in_member};
-ghost use Rattle.json_reading.specs.Reading.{member, optional, required, here, is_true, has, absent, known, fault_in, fault_here};
+ghost use Rattle.json_reading.specs.Reading.{member, optional, required, here, is_true, has, absent, found_or, fault_in, fault_here};
 ghost use Rattle.json_reading.specs.Outcome.{Gives, Refuses, same};
 ghost use Rattle.json_reading.specs.Here.{at_of};
 
@@ -156,14 +156,14 @@ impl<'a, K: Copy> Here<'a, K> {
 
     /// What was looked up, or a fault of this kind at a member.
     #[tactic(auto, using(crate::proofs::Refused::refused))]
-    pub fn known<T>(
+    pub fn found_or<T>(
         &self,
         alloc: Global,
         name: &str,
         kind: K,
         found: Option<T>,
     ) -> Result<T, ReadError<K>>
-        ensures { Gives same result (known found (fault_in name.now kind (at_of self.now))) }
+        ensures { Gives same result (found_or found (fault_in name.now kind (at_of self.now))) }
     {
         match found {
             Some(value) => Ok(value),
@@ -173,8 +173,13 @@ impl<'a, K: Copy> Here<'a, K> {
 
     /// What was looked up, or a fault of this kind at the spot.
     #[tactic(auto, using(crate::proofs::Refused::refused))]
-    pub fn known_here<T>(&self, alloc: Global, kind: K, found: Option<T>) -> Result<T, ReadError<K>>
-        ensures { Gives same result (known found (fault_here kind (at_of self.now))) }
+    pub fn found_or_here<T>(
+        &self,
+        alloc: Global,
+        kind: K,
+        found: Option<T>,
+    ) -> Result<T, ReadError<K>>
+        ensures { Gives same result (found_or found (fault_here kind (at_of self.now))) }
     {
         match found {
             Some(value) => Ok(value),

@@ -9,12 +9,12 @@ use Rattle.std.proofs.lemmas.Slice.Eq.{bytes_eq-Decides}
 use Rattle.name_tables.specs.Names.{is_among}
 use Rattle.name_tables.specs.Tables.{with_name, with_names}
 use Rattle.fb_json.specs.Tree.{text_of}
-use Rattle.json_reading.specs.Reading.{At, fault_here, fault_in, unless, here, optional_array}
+use Rattle.json_reading.specs.Reading.{At, fault_here, fault_in, refuse_if, here, optional_array}
 use Rattle.json_reading.specs.Place.{in_member}
-use Rattle.json_reading.proofs.Kept.{bind_ok, unless_ok, optional_array_keeps}
+use Rattle.json_reading.proofs.Kept.{bind_ok, refuse_if_ok, optional_array_keeps}
 use Rattle.run_settings.specs.Codes.{AreCodes}
 use Rattle.run_settings.specs.Laws.{AreDistinct}
-use Rattle.run_settings.specs.Zones.{zone_codes, code_of, codes_of, codes_or_id}
+use Rattle.run_settings.specs.Zones.{zone_codes, code_of, listed_codes, codes_or_id}
 use Rattle.run_settings.specs.declared.model.SettingsKind.{SettingsKind}
 use Rattle.run_settings.specs.declared.model.SettingsKind.TheVariants.{Twice}
 use Rattle.run_settings.specs.declared.model.Zone.{Zone}
@@ -70,10 +70,10 @@ code_step : (earlier before : List (List ℕ)) (at : At SettingsKind) (item : Op
 unfolding code_of
 code_step earlier before at item e so_far =
     let code = bind_ok (here text_of at) _ item e in
-    let free = bind_ok (unless (is_among earlier code.0) (fault_here Twice at)) _ item code.2 in
-    let new = bind_ok (unless (is_among before code.0) (fault_here Twice at)) _ item free.2 in
+    let free = bind_ok (refuse_if (is_among earlier code.0) (fault_here Twice at)) _ item code.2 in
+    let new = bind_ok (refuse_if (is_among before code.0) (fault_here Twice at)) _ item free.2 in
     let is : Some code.0 ≡ item = cc in
-    let more = one_more earlier before code.0 (unless_ok (is_among earlier code.0) at.place Twice free.0 free.1) (unless_ok (is_among before code.0) at.place Twice new.0 new.1) so_far in
+    let more = one_more earlier before code.0 (refuse_if_ok (is_among earlier code.0) at.place Twice free.0 free.1) (refuse_if_ok (is_among before code.0) at.place Twice new.0 new.1) so_far in
     subst (λ (o : Option (List ℕ)). AreNew earlier (before ++ option_to_list o)) is more
 
 codes_step : (earlier : List (List ℕ)) (id : List ℕ) (at : At SettingsKind) (listed : Option (List (List ℕ))) (found : List (List ℕ))
@@ -82,13 +82,13 @@ codes_step earlier id at (Some xs) found e f distinct =
     let same : xs ≡ found = cc in
     subst (λ (ys : List (List ℕ)). AreNew earlier ys) same (optional_array_keeps (AreNew earlier) (code_of earlier) (code_step earlier) (codes "codes") at xs (none_new earlier distinct) e)
 codes_step earlier id at None found e f distinct =
-    let free = bind_ok (unless (is_among earlier id) (fault_in (codes "id") Twice at)) _ found f in
+    let free = bind_ok (refuse_if (is_among earlier id) (fault_in (codes "id") Twice at)) _ found f in
     let same : id ∷ [] ≡ found = cc in
     subst (λ (ys : List (List ℕ)). AreNew earlier ys) same
-    (one_more earlier [] id (unless_ok (is_among earlier id) (in_member at.place (codes "id")) Twice free.0 free.1) refl (none_new earlier distinct))
+    (one_more earlier [] id (refuse_if_ok (is_among earlier id) (in_member at.place (codes "id")) Twice free.0 free.1) refl (none_new earlier distinct))
 
-codes_new : (earlier : List (List ℕ)) (id : List ℕ) (at : At SettingsKind) (found : List (List ℕ)) → codes_of earlier id at ≡ Ok found → AreDistinct earlier → AreNew earlier found
-unfolding codes_of
+codes_new : (earlier : List (List ℕ)) (id : List ℕ) (at : At SettingsKind) (found : List (List ℕ)) → listed_codes earlier id at ≡ Ok found → AreDistinct earlier → AreNew earlier found
+unfolding listed_codes
 codes_new earlier id at found e distinct =
     let listed = bind_ok (optional_array (code_of earlier) (codes "codes") at) _ found e in
     codes_step earlier id at listed.0 found listed.1 listed.2 distinct
@@ -100,14 +100,14 @@ zone_codes-push [] zone = append-nil zone.codes
 zone_codes-push (z ∷ zs) zone = ap (λ (names : List (List ℕ)). z.codes ++ names) (zone_codes-push zs zone) ∙ sym (append_assoc z.codes (zone_codes zs) zone.codes)
 
 -- the codes of one zone more
-pub zone_distinct : (zones : List Zone) (zone : Zone) (id : List ℕ) (at : At SettingsKind) → codes_of (zone_codes zones) id at ≡ Ok zone.codes → AreDistinct (zone_codes zones) → AreDistinct (zone_codes (zones ++ zone ∷ []))
+pub zone_distinct : (zones : List Zone) (zone : Zone) (id : List ℕ) (at : At SettingsKind) → listed_codes (zone_codes zones) id at ≡ Ok zone.codes → AreDistinct (zone_codes zones) → AreDistinct (zone_codes (zones ++ zone ∷ []))
 zone_distinct zones zone id at e distinct =
     subst AreDistinct (sym (zone_codes-push zones zone)) (codes_new (zone_codes zones) id at zone.codes e distinct).distinct
 
 pub zone_noted : (table after : List (List ℕ)) (zones : List Zone) (zone : Zone) (id : List ℕ) (at : At SettingsKind)
-    → codes_of table id at ≡ Ok zone.codes → after ≡ with_names table zone.codes → AreCodes table zones → AreCodes after (zones ++ zone ∷ [])
+    → listed_codes table id at ≡ Ok zone.codes → after ≡ with_names table zone.codes → AreCodes table zones → AreCodes after (zones ++ zone ∷ [])
 zone_noted table after zones zone id at e is kept =
-    let read : codes_of (zone_codes zones) id at ≡ Ok zone.codes = ap (λ (names : List (List ℕ)). codes_of names id at) (sym kept.same) ∙ e in
+    let read : listed_codes (zone_codes zones) id at ≡ Ok zone.codes = ap (λ (names : List (List ℕ)). listed_codes names id at) (sym kept.same) ∙ e in
     let new = codes_new (zone_codes zones) id at zone.codes read kept.distinct in
     record {
       same = is ∙ ap (λ (names : List (List ℕ)). with_names names zone.codes) kept.same ∙ new.noted ∙ sym (zone_codes-push zones zone);

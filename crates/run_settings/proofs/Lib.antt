@@ -5,5 +5,4 @@ pub mod PointLaws
 pub mod RecordLaws
 pub mod ReductionLaws
 pub mod SettingsLaws
-pub mod TestLaws
 pub mod TotalLaws

@@ -4,7 +4,7 @@ use Rattle.std.specs.Bool.{beq}
 use Rattle.std.specs.List.{filter}
 use Rattle.std.proofs.lemmas.List.{map_push, map-append}
 use Rattle.std.proofs.lemmas.List.Elements.{filter-append}
-use Rattle.csv_rows.specs.Rows.{rows_of}
+use Rattle.csv_rows.specs.Rows.{records_in}
 use Rattle.fb_types.specs.declared.crac.Element.{Element}
 use Rattle.first_fault.specs.FirstFault.{IsFirstFault, HasNoFault}
 use Rattle.first_fault.proofs.FirstFaultLaws.{HasNoFault-nil, HasNoFault-push, IsFirstFault-same, IsFirstFault-fault}
@@ -98,7 +98,7 @@ no_header rows e = record { first = []; left = []; split = ap some_rows e; is_no
 pub wrong_header : (rows left : List Row) (row : Row) → rows ≡ row ∷ left → is_header row ≡ false → HasNoHeader rows
 wrong_header rows left row e f = record { first = row; left = left; split = ap some_rows e; is_not = f }
 
-pub header_fault : (elements : List Element) (bytes : List ℕ) → HasNoHeader (rows_of bytes) → IsReductionFault elements bytes 1 WrongType
+pub header_fault : (elements : List Element) (bytes : List ℕ) → HasNoHeader (records_in bytes) → IsReductionFault elements bytes 1 WrongType
 header_fault elements bytes h = record {
   before = [];
   here = h.first;
@@ -133,16 +133,16 @@ header_first elements header records n kind is first = record {
 }
 
 pub document_read : (elements : List Element) (bytes : List ℕ) (rows left : List Row) (result : Result (List Reduction) ReductionError)
-    → rows ≡ rows_of bytes → HasHeader rows left → ReadsRecords elements left result → Reads elements bytes result
+    → rows ≡ records_in bytes → HasHeader rows left → ReadsRecords elements left result → Reads elements bytes result
 document_read elements bytes rows left (Err (errors.Memory m)) e h r = tt
 document_read elements bytes rows left (Err (errors.Fault row kind)) e h r =
-    let split : rows_of bytes ≡ h.header ∷ left = sym e ∙ h.split in
+    let split : records_in bytes ≡ h.header ∷ left = sym e ∙ h.split in
     let here : IsFirstFault (row_fault elements) (h.header ∷ left) (r.0 + 1) kind = header_first elements h.header left r.0 kind h.is r.2 in
     let number : r.0 + 1 ≡ row = sym r.1 in
     subst (λ (n : ℕ). IsFirstFault (row_fault elements) (document_rows bytes) n kind) number
     (subst (λ (rs : List Row). IsFirstFault (row_fault elements) (some_rows rs) (r.0 + 1) kind) (sym split) here)
 document_read elements bytes rows left (Ok reductions) e h r =
-    let split : rows_of bytes ≡ h.header ∷ left = sym e ∙ h.split in (
+    let split : records_in bytes ≡ h.header ∷ left = sym e ∙ h.split in (
       subst (λ (rs : List Row). HasNoFault (row_fault elements) (some_rows rs)) (sym split) (header_none elements h.header left h.is r.0),
       r.1 ∙ ap (λ (rs : List Row). map (reduction_in elements) (drop 1 rs)) (sym split),
     )

@@ -3,11 +3,11 @@ use Rattle.std.proofs.Common.{◌≡◌, ℕ, ◌<◌, ◌^◌, Bool, true, fals
 use Rattle.std.specs.Prelude.{◌≤ℤ◌, ◌&&◌, ◌==◌, not, is_none, unwrap_or, slice_get, int_le, IfOk}
 use Rattle.std.proofs.lemmas.List.Elements.{All-cons, All-nil}
 use Rattle.std.proofs.lemmas.Option.{slice_get_within}
-use Rattle.csv_rows.specs.Rows.{rows_of}
+use Rattle.csv_rows.specs.Rows.{records_in}
 use Rattle.fb_types.specs.declared.crac.Element.{Element}
 use Rattle.first_fault.specs.FirstFault.{HasNoFault}
 use Rattle.name_tables.specs.Names.{value_at, numbered_from}
-use Rattle.run_settings.proofs.TestLaws.{both, not_not, at_most}
+use Rattle.json_reading.proofs.Tests.{both, not_not, at_most}
 use Rattle.run_settings.specs.ReductionLaws.{IsReduction}
 use Rattle.run_settings.specs.Records.{Reads, fault_among}
 use Rattle.run_settings.specs.Reductions.{Row, field_in, is_opposite, is_formed, is_amount, cva_in, iva_in, element_ids, element_in, element_named, limited_at, is_limited, named_by, record_fault, reduction_in, row_fault, some_rows}
@@ -71,5 +71,5 @@ rows_hold elements (header ∷ records) none =
     (λ front item rest e. none (header ∷ front) item rest (ap (λ (rows : List Row). header ∷ rows) e))
 
 pub reductions_hold : (elements : List Element) (bytes : List ℕ) (result : Result (List Reduction) ReductionError) → Reads elements bytes result → IfOk result (λ reductions. All (IsReduction elements) reductions)
-reductions_hold elements bytes (Ok reductions) r = subst (All (IsReduction elements)) (sym r.1) (rows_hold elements (rows_of bytes) r.0)
+reductions_hold elements bytes (Ok reductions) r = subst (All (IsReduction elements)) (sym r.1) (rows_hold elements (records_in bytes) r.0)
 reductions_hold elements bytes (Err e) r = tt

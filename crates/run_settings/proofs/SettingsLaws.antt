@@ -13,21 +13,21 @@ use Rattle.serde_json.specs.Data.{Data}
 use Rattle.fb_decimal.specs.declared.Decimal.{Decimal}
 use Rattle.fb_json.specs.Tree.{text_of, decimal_of, truth_of, length_of}
 use Rattle.json_reading.specs.Place.{in_member}
-use Rattle.json_reading.specs.Reading.{At, fault_here, fault_in, unless, known, required, optional, required_array}
-use Rattle.json_reading.proofs.Kept.{bind_ok, unless_ok, known_ok, required_array_keeps, required_array_few}
+use Rattle.json_reading.specs.Reading.{At, fault_here, fault_in, refuse_if, found_or, required, optional, required_array}
+use Rattle.json_reading.proofs.Kept.{bind_ok, refuse_if_ok, found_or_ok, required_array_keeps, required_array_few}
 use Rattle.fb_types.specs.declared.grid.Node.{Node}
 use Rattle.run_settings.specs.Laws.{AreDistinct, HasBounds, ids_of, AreZones, AreSettings}
 use Rattle.run_settings.specs.Nodes.{node_named}
 use Rattle.run_settings.specs.Nodes as nodes
 use Rattle.run_settings.specs.Times.{moment_of}
-use Rattle.run_settings.specs.Zones.{is_bound, bound_in, bounds_of, has_id, zone_codes, codes_of, zone_of, has_core, is_reversed, least_sum, greatest_sum, zones_of}
+use Rattle.run_settings.specs.Zones.{is_bound, bound_in, bounds_of, has_id, zone_codes, listed_codes, zone_of, has_core, is_reversed, least_sum, greatest_sum, zones_of}
 use Rattle.run_settings.specs.Settings.{Said, is_whole, is_permille, permille_or, permille_in, slack_named, slack_in, settings_at, settings_of}
 use Rattle.run_settings.specs.declared.model.SettingsKind.{SettingsKind}
 use Rattle.run_settings.specs.declared.model.SettingsKind.TheVariants.{Missing, WrongType, BoxReversed, OutOfRange, UnknownNode, BadTime, Twice, TooMany}
 use Rattle.run_settings.specs.declared.model.Zone.{Zone}
 use Rattle.run_settings.proofs.CodeLaws.{distinct-push, none_distinct, zone_distinct}
 use Rattle.run_settings.proofs.PointLaws.{core_point}
-use Rattle.run_settings.proofs.TestLaws.{both, neither, not_not, at_most, not_below}
+use Rattle.json_reading.proofs.Tests.{both, neither, not_not, at_most, not_below}
 
 -- ---- bounds
 
@@ -36,8 +36,8 @@ unfolding bound_in
 bound_ok name at watts e =
     let number = bind_ok (required decimal_of name at) _ watts e in
     let z : ℤ = number.0.millionths in
-    let fits = bind_ok (unless (not (is_bound z)) (fault_in name OutOfRange at)) _ watts number.2 in
-    let ends = both _ _ (not_not (is_bound z) (unless_ok (not (is_bound z)) (in_member at.place name) OutOfRange fits.0 fits.1)) in
+    let fits = bind_ok (refuse_if (not (is_bound z)) (fault_in name OutOfRange at)) _ watts number.2 in
+    let ends = both _ _ (not_not (is_bound z) (refuse_if_ok (not (is_bound z)) (in_member at.place name) OutOfRange fits.0 fits.1)) in
     let same : z ≡ watts = cc in
     subst (IsWithin (10 ^ 11)) same (record { low = at_most _ z ends.0; high = at_most z _ ends.1 })
 
@@ -55,10 +55,10 @@ bounds_ok false zone at is e =
 bounds_ok true zone at is e =
     let low = bind_ok (bound_in (codes "min") at) _ zone.bounds e in
     let high = bind_ok (bound_in (codes "max") at) _ zone.bounds low.2 in
-    let ordered = bind_ok (unless (int_lt high.0 low.0) (fault_here BoxReversed at)) _ zone.bounds high.2 in
+    let ordered = bind_ok (refuse_if (int_lt high.0 low.0) (fault_here BoxReversed at)) _ zone.bounds high.2 in
     let low_is : low.0 ≡ zone.bounds.low = cc in
     let high_is : high.0 ≡ zone.bounds.high = cc in
-    let order = not_below high.0 low.0 (unless_ok (int_lt high.0 low.0) at.place BoxReversed ordered.0 ordered.1) in
+    let order = not_below high.0 low.0 (refuse_if_ok (int_lt high.0 low.0) at.place BoxReversed ordered.0 ordered.1) in
     record {
       low = subst (IsWithin (10 ^ 11)) low_is (bound_ok (codes "min") at low.0 low.1);
       high = subst (IsWithin (10 ^ 11)) high_is (bound_ok (codes "max") at high.0 high.1);
@@ -73,7 +73,7 @@ unfolding has_id
 ids_among [] id = refl
 ids_among (z ∷ zs) id = ap (λ (b : Bool). bytes_eq id z.id || b) (ids_among zs id)
 
-one_more : (before : List Zone) (zone : Zone) (at : At SettingsKind) → has_id zone.id before ≡ false → codes_of (zone_codes before) zone.id at ≡ Ok zone.codes → bounds_of zone.core at ≡ Ok zone.bounds
+one_more : (before : List Zone) (zone : Zone) (at : At SettingsKind) → has_id zone.id before ≡ false → listed_codes (zone_codes before) zone.id at ≡ Ok zone.codes → bounds_of zone.core at ≡ Ok zone.bounds
     → AreZones before → AreZones (before ++ zone ∷ [])
 one_more before zone at new listed bounds so_far = record {
   ids = subst AreDistinct (sym (map_push (λ (z : Zone). z.id) before zone)) (distinct-push (ids_of before) zone.id (ids_among before zone.id ∙ new) so_far.ids);
@@ -85,13 +85,13 @@ zone_step : (before : List Zone) (at : At SettingsKind) (item : Option Zone) →
 unfolding zone_of
 zone_step before at item e so_far =
     let id = bind_ok (required text_of (codes "id") at) _ item e in
-    let new = bind_ok (unless (has_id id.0 before) (fault_in (codes "id") Twice at)) _ item id.2 in
-    let listed = bind_ok (codes_of (zone_codes before) id.0 at) _ item new.2 in
+    let new = bind_ok (refuse_if (has_id id.0 before) (fault_in (codes "id") Twice at)) _ item id.2 in
+    let listed = bind_ok (listed_codes (zone_codes before) id.0 at) _ item new.2 in
     let core = bind_ok (optional truth_of (codes "core") at) _ item listed.2 in
     let bounds = bind_ok (bounds_of (unwrap_or core.0 true) at) _ item core.2 in
     let zone : Zone = record { id = id.0; codes = listed.0; core = unwrap_or core.0 true; bounds = bounds.0 } in
     let is : Some zone ≡ item = cc in
-    let fresh = unless_ok (has_id id.0 before) (in_member at.place (codes "id")) Twice new.0 new.1 in
+    let fresh = refuse_if_ok (has_id id.0 before) (in_member at.place (codes "id")) Twice new.0 new.1 in
     subst (λ (o : Option Zone). AreZones (before ++ option_to_list o)) is (one_more before zone at fresh listed.1 bounds.1 so_far)
 
 none_zones : AreZones []
@@ -109,19 +109,19 @@ unfolding zones_of is_reversed
 zones_ok at zones e =
     let place : List ℕ = in_member at.place (codes "zones") in
     let count = bind_ok (required length_of (codes "zones") at) _ zones e in
-    let some = bind_ok (unless (count.0 == 0) (fault_in (codes "zones") Missing at)) _ zones count.2 in
-    let few = bind_ok (unless (nat_lt 64 count.0) (fault_in (codes "zones") TooMany at)) _ zones some.2 in
+    let some = bind_ok (refuse_if (count.0 == 0) (fault_in (codes "zones") Missing at)) _ zones count.2 in
+    let few = bind_ok (refuse_if (nat_lt 64 count.0) (fault_in (codes "zones") TooMany at)) _ zones some.2 in
     let all = bind_ok (required_array zone_of (codes "zones") at) _ zones few.2 in
-    let core = bind_ok (unless (not (has_core all.0)) (fault_in (codes "zones") Missing at)) _ zones all.2 in
-    let box = bind_ok (unless (is_reversed all.0) (fault_in (codes "zones") BoxReversed at)) _ zones core.2 in
+    let core = bind_ok (refuse_if (not (has_core all.0)) (fault_in (codes "zones") Missing at)) _ zones all.2 in
+    let box = bind_ok (refuse_if (is_reversed all.0) (fault_in (codes "zones") BoxReversed at)) _ zones core.2 in
     let same : all.0 ≡ zones = cc in
     let length_is = required_array_few zone_of (codes "zones") at count.0 all.0 count.1 all.1 in
-    let at_most_64 : count.0 ≤ 64 = let t = unless_ok (nat_lt 64 count.0) place TooMany few.0 few.1 in grind arith in
-    let sums = neither _ _ (unless_ok (is_reversed all.0) place BoxReversed box.0 box.1) in
+    let at_most_64 : count.0 ≤ 64 = let t = refuse_if_ok (nat_lt 64 count.0) place TooMany few.0 few.1 in grind arith in
+    let sums = neither _ _ (refuse_if_ok (is_reversed all.0) place BoxReversed box.0 box.1) in
     subst ZonesHold same (record {
       all = required_array_keeps AreZones zone_of zone_step (codes "zones") at all.0 none_zones all.1;
       few = omega arith;
-      core = not_not (has_core all.0) (unless_ok (not (has_core all.0)) place Missing core.0 core.1);
+      core = not_not (has_core all.0) (refuse_if_ok (not (has_core all.0)) place Missing core.0 core.1);
       low = not_below _ _ sums.0;
       high = not_below _ _ sums.1;
     })
@@ -138,9 +138,9 @@ permille_or_ok : (default : ℕ) (name : List ℕ) (at : At SettingsKind) (found
 permille_or_ok default name at None n e h = let same : default ≡ n = cc in omega arith
 permille_or_ok default name at (Some d) n e h =
     let z : ℤ = d.millionths in
-    let whole = bind_ok (unless (not (is_whole z)) (fault_in name WrongType at)) _ n e in
-    let fits = bind_ok (unless (not (is_permille z)) (fault_in name OutOfRange at)) _ n whole.2 in
-    let ends = both _ _ (not_not (is_permille z) (unless_ok (not (is_permille z)) (in_member at.place name) OutOfRange fits.0 fits.1)) in
+    let whole = bind_ok (refuse_if (not (is_whole z)) (fault_in name WrongType at)) _ n e in
+    let fits = bind_ok (refuse_if (not (is_permille z)) (fault_in name OutOfRange at)) _ n whole.2 in
+    let ends = both _ _ (not_not (is_permille z) (refuse_if_ok (not (is_permille z)) (in_member at.place name) OutOfRange fits.0 fits.1)) in
     let same : nat_abs z / 10 ^ 6 ≡ n = cc in
     subst (λ (k : ℕ). k ≤ 1000) same (div_small (nat_abs z) (permille_small z (at_most _ z ends.0) (at_most z _ ends.1)))
 
@@ -158,7 +158,7 @@ numbered_below n (name ∷ names) q k e = by_test (bytes_eq q name) e (numbered_
     by_test true e later = let same : n ≡ k = cc in omega arith
     by_test false e later = let h = later e in omega arith
 
-codes_length : (list : List Node) → length (nodes.codes_of list) ≡ length list
+codes_length : (list : List Node) → length (nodes.node_codes list) ≡ length list
 codes_length [] = refl
 codes_length (n ∷ ns) = ap suc (codes_length ns)
 
@@ -167,10 +167,10 @@ slack_named_ok list at None slack e =
     let same : None ≡ slack = cc in
     subst (λ (o : Option ℕ). IfSome o (λ place. place < length list)) same tt
 slack_named_ok list at (Some name) slack e =
-    let place = bind_ok (known (node_named list name) (fault_in (codes "slack") UnknownNode at)) _ slack e in
+    let place = bind_ok (found_or (node_named list name) (fault_in (codes "slack") UnknownNode at)) _ slack e in
     let same : Some place.0 ≡ slack = cc in
-    let found = known_ok (node_named list name) (in_member at.place (codes "slack")) UnknownNode place.0 place.1 in
-    let below = numbered_below 0 (nodes.codes_of list) (padded_name 8 name) place.0 found in
+    let found = found_or_ok (node_named list name) (in_member at.place (codes "slack")) UnknownNode place.0 place.1 in
+    let below = numbered_below 0 (nodes.node_codes list) (padded_name 8 name) place.0 found in
     let long = codes_length list in
     subst (λ (o : Option ℕ). IfSome o (λ place. place < length list)) same (omega arith)
 

@@ -5,7 +5,7 @@ use Rattle.std.specs.Bool.{beq}
 use Rattle.std.specs.List.{filter}
 use Rattle.std.specs.Str.{bytes_eq, is_utf8}
 use Rattle.csv.specs.Records.{field_at}
-use Rattle.csv_rows.specs.Rows.{rows_of}
+use Rattle.csv_rows.specs.Rows.{records_in}
 use Rattle.fb_decimal.specs.Reading.{decimal_of}
 use Rattle.fb_decimal.specs.declared.Decimal.{Decimal}
 use Rattle.fb_decimal.specs.declared.DecimalFault.{DecimalFault}
@@ -138,7 +138,7 @@ some_rows [] = [] ∷ []
 some_rows (row ∷ rows) = row ∷ rows
 
 abbrev pub document_rows : List ℕ → List Row
-document_rows bytes = some_rows (rows_of bytes)
+document_rows bytes = some_rows (records_in bytes)
 
 -- the first fault, with the row's number
 abbrev pub IsReductionFault : List Element → List ℕ → ℕ → ReductionKind → Type 0
@@ -149,4 +149,4 @@ HasNoReductionFault elements bytes = HasNoFault (row_fault elements) (document_r
 
 -- the reductions of the records after the header
 abbrev pub reductions_of : List Element → List ℕ → List Reduction
-reductions_of elements bytes = map (reduction_in elements) (drop 1 (rows_of bytes))
+reductions_of elements bytes = map (reduction_in elements) (drop 1 (records_in bytes))

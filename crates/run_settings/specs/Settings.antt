@@ -4,7 +4,7 @@ use Rattle.std.specs.Prelude.{ℕ, ℤ, pos, ◌==◌, ◌&&◌, ◌*◌, ◌^�
 use Rattle.serde_json.specs.Data.{Data}
 use Rattle.fb_decimal.specs.declared.Decimal.{Decimal}
 use Rattle.fb_json.specs.Tree.{text_of, decimal_of}
-use Rattle.json_reading.specs.Reading.{At, ◌>>=◌, fault_in, unless, known, optional}
+use Rattle.json_reading.specs.Reading.{At, ◌>>=◌, fault_in, refuse_if, found_or, optional}
 use Rattle.fb_types.specs.declared.grid.Node.{Node}
 use Rattle.run_settings.specs.Nodes.{node_named}
 use Rattle.run_settings.specs.Times.{moment_of}
@@ -33,8 +33,8 @@ is_permille millionths = int_le (pos 0) millionths && int_le millionths (pos (10
 abbrev pub permille_or : ℕ → List ℕ → At SettingsKind → Option Decimal → Read ℕ
 permille_or default name at None = Ok default
 permille_or default name at (Some number) = do
-  whole ← unless (not (is_whole number.millionths)) (fault_in name WrongType at)
-  fits ← unless (not (is_permille number.millionths)) (fault_in name OutOfRange at)
+  whole ← refuse_if (not (is_whole number.millionths)) (fault_in name WrongType at)
+  fits ← refuse_if (not (is_permille number.millionths)) (fault_in name OutOfRange at)
   Ok (nat_abs number.millionths / 10 ^ 6)
 
 -- a whole number of thousandths, or the default where there is none
@@ -46,7 +46,7 @@ permille_in default name at = do
 abbrev pub slack_named : List Node → At SettingsKind → Option (List ℕ) → Read (Option ℕ)
 slack_named nodes at None = Ok None
 slack_named nodes at (Some name) = do
-  place ← known (node_named nodes name) (fault_in (codes "slack") UnknownNode at)
+  place ← found_or (node_named nodes name) (fault_in (codes "slack") UnknownNode at)
   Ok (Some place)
 
 -- the slack node, if one is named

@@ -3,7 +3,7 @@
 use Rattle.std.specs.Prelude.{ℕ, ℤ, List, Option, Some, None, Ok, Err}
 use Rattle.jiff.specs.Words.{parse_timestamp}
 use Rattle.fb_json.specs.Tree.{text_of}
-use Rattle.json_reading.specs.Reading.{At, Reading, ◌>>=◌, fault_in, known, required}
+use Rattle.json_reading.specs.Reading.{At, Reading, ◌>>=◌, fault_in, found_or, required}
 
 -- the instant that a text names, if it names one
 unfoldable pub instant_in : List ℕ → Option ℤ
@@ -13,4 +13,4 @@ instant_in text = elim (parse_timestamp text) as (λ _. Option ℤ) [ Ok n ↦ S
 unfoldable pub moment_of : {K : Type 0} → K → List ℕ → At K → Reading K ℤ
 moment_of bad_time name at = do
   text ← required text_of name at
-  known (instant_in text) (fault_in name bad_time at)
+  found_or (instant_in text) (fault_in name bad_time at)

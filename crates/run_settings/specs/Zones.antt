@@ -3,7 +3,7 @@ use Rattle.std.specs.Prelude.{ℕ, ℤ, pos, neg_ℤ, ◌==◌, ◌||◌, ◌&&�
 use Rattle.std.specs.List.{list_any}
 use Rattle.std.specs.Str.{bytes_eq}
 use Rattle.fb_json.specs.Tree.{text_of, decimal_of, length_of, truth_of}
-use Rattle.json_reading.specs.Reading.{Reading, At, ◌>>=◌, fault_here, fault_in, unless, required, optional, here, optional_array, required_array}
+use Rattle.json_reading.specs.Reading.{Reading, At, ◌>>=◌, fault_here, fault_in, refuse_if, required, optional, here, optional_array, required_array}
 use Rattle.name_tables.specs.Names.{is_among}
 use Rattle.whole_laws.specs.Sums.{sum_over}
 use Rattle.fb_types.specs.declared.rows.Bounds.{Bounds}
@@ -25,19 +25,19 @@ zone_codes (zone ∷ zones) = zone.codes ++ zone_codes zones
 unfoldable pub code_of : List (List ℕ) → List (List ℕ) → At SettingsKind → Read (Option (List ℕ))
 code_of earlier before at = do
   code ← here text_of at
-  is_free ← unless (is_among earlier code) (fault_here Twice at)
-  is_new ← unless (is_among before code) (fault_here Twice at)
+  is_free ← refuse_if (is_among earlier code) (fault_here Twice at)
+  is_new ← refuse_if (is_among before code) (fault_here Twice at)
   Ok (Some code)
 
 -- where a zone lists no codes, its id is the one code
 abbrev pub codes_or_id : List (List ℕ) → List ℕ → At SettingsKind → Option (List (List ℕ)) → Read (List (List ℕ))
 codes_or_id earlier id at (Some listed) = Ok listed
 codes_or_id earlier id at None = do
-  is_free ← unless (is_among earlier id) (fault_in (codes "id") Twice at)
+  is_free ← refuse_if (is_among earlier id) (fault_in (codes "id") Twice at)
   Ok (id ∷ [])
 
-unfoldable pub codes_of : List (List ℕ) → List ℕ → At SettingsKind → Read (List (List ℕ))
-codes_of earlier id at = do
+unfoldable pub listed_codes : List (List ℕ) → List ℕ → At SettingsKind → Read (List (List ℕ))
+listed_codes earlier id at = do
   listed ← optional_array (code_of earlier) (codes "codes") at
   codes_or_id earlier id at listed
 
@@ -50,7 +50,7 @@ is_bound watts = int_le (neg_ℤ (pos (10 ^ 11))) watts && int_le watts (pos (10
 unfoldable pub bound_in : List ℕ → At SettingsKind → Read ℤ
 bound_in name at = do
   megawatts ← required decimal_of name at
-  fits ← unless (not (is_bound megawatts.millionths)) (fault_in name OutOfRange at)
+  fits ← refuse_if (not (is_bound megawatts.millionths)) (fault_in name OutOfRange at)
   Ok megawatts.millionths
 
 -- the bounds of a Core zone are read; those of another zone are 0 and 0
@@ -59,7 +59,7 @@ bounds_of false at = Ok (record { low = pos 0; high = pos 0 })
 bounds_of true at = do
   low ← bound_in (codes "min") at
   high ← bound_in (codes "max") at
-  ordered ← unless (int_lt high low) (fault_here BoxReversed at)
+  ordered ← refuse_if (int_lt high low) (fault_here BoxReversed at)
   Ok (record { low = low; high = high })
 
 -- ---- zones
@@ -71,8 +71,8 @@ has_id id zones = list_any (λ zone. bytes_eq id zone.id) zones
 unfoldable pub zone_of : List Zone → At SettingsKind → Read (Option Zone)
 zone_of before at = do
   id ← required text_of (codes "id") at
-  is_new ← unless (has_id id before) (fault_in (codes "id") Twice at)
-  listed ← codes_of (zone_codes before) id at
+  is_new ← refuse_if (has_id id before) (fault_in (codes "id") Twice at)
+  listed ← listed_codes (zone_codes before) id at
   core ← optional truth_of (codes "core") at
   bounds ← bounds_of (unwrap_or core true) at
   Ok (Some (record { id = id; codes = listed; core = unwrap_or core true; bounds = bounds }))
@@ -95,9 +95,9 @@ is_reversed zones = int_lt (pos 0) (least_sum zones) || int_lt (greatest_sum zon
 unfoldable pub zones_of : At SettingsKind → Read (List Zone)
 zones_of at = do
   count ← required length_of (codes "zones") at
-  some ← unless (count == 0) (fault_in (codes "zones") Missing at)
-  few ← unless (nat_lt 64 count) (fault_in (codes "zones") TooMany at)
+  some ← refuse_if (count == 0) (fault_in (codes "zones") Missing at)
+  few ← refuse_if (nat_lt 64 count) (fault_in (codes "zones") TooMany at)
   zones ← required_array zone_of (codes "zones") at
-  core ← unless (not (has_core zones)) (fault_in (codes "zones") Missing at)
-  box ← unless (is_reversed zones) (fault_in (codes "zones") BoxReversed at)
+  core ← refuse_if (not (has_core zones)) (fault_in (codes "zones") Missing at)
+  box ← refuse_if (is_reversed zones) (fault_in (codes "zones") BoxReversed at)
   Ok zones

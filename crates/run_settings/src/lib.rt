@@ -18,6 +18,3 @@ pub use nodes::NodeTable;
 pub use reduction::{Reduction, ReductionError, ReductionKind};
 pub use table::read_reductions;
 pub use times::{instant, moment_of};
-
-#[cfg(test)]
-mod tests;

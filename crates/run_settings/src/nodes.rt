@@ -1,7 +1,7 @@
 //! Nodes by their codes.
 
 ghost use Rattle.std.specs.Prelude.{◌≡◌, ◌<◌, ◌^◌, length, IfOk};
-ghost use Rattle.run_settings.specs.Nodes.{codes_of, node_named};
+ghost use Rattle.run_settings.specs.Nodes.{node_codes, node_named};
 ghost use Rattle.run_settings.specs.Places.{ArePlaces};
 
 use fb_types::{Grid, Node};
@@ -19,14 +19,14 @@ pub struct NodeTable<'a> {
 impl<'a> Model for NodeTable<'a> {
     ghost use Rattle.std.specs.Prelude.{List};
     ghost use Rattle.fb_types.specs.declared.grid.Node.{Node};
-    ghost use Rattle.run_settings.specs.Nodes.{codes_of};
+    ghost use Rattle.run_settings.specs.Nodes.{node_codes};
     ghost use Rattle.run_settings.specs.Places.{ArePlaces};
 
     ghost Value = { List Node };
 
     ghost view = { λ t. t.nodes.now };
 
-    ghost invariant = { λ t. ArePlaces t.places (codes_of t.nodes.now) };
+    ghost invariant = { λ t. ArePlaces t.places (node_codes t.nodes.now) };
 }
 
 impl<'a> NodeTable<'a> {
@@ -51,7 +51,7 @@ impl<'a> NodeTable<'a> {
 /// The places of nodes by their codes.
 fn places_of(alloc: Global, nodes: &[Node]) -> Result<ValueTable<u32>, AllocError>
     requires { length nodes.now < 2 ^ 32 }
-    ensures { IfOk result (λ places. ArePlaces places (codes_of nodes.now)) }
+    ensures { IfOk result (λ places. ArePlaces places (node_codes nodes.now)) }
 {
     let mut places = ValueTable::new(alloc);
     for (place, node) in nodes.iter().enumerate() {

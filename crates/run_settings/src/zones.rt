@@ -6,7 +6,7 @@ ghost use Rattle.json_reading.specs.Here.{at_of};
 ghost use Rattle.json_reading.specs.Outcome.{Gives, same};
 ghost use Rattle.name_tables.specs.Tables.{with_names};
 ghost use Rattle.run_settings.specs.Codes.{AreCodes};
-ghost use Rattle.run_settings.specs.Zones.{code_of, codes_of, bound_in, bounds_of, has_id, zone_of, has_core, is_reversed, least_sum, greatest_sum, zones_of};
+ghost use Rattle.run_settings.specs.Zones.{code_of, listed_codes, bound_in, bounds_of, has_id, zone_of, has_core, is_reversed, least_sum, greatest_sum, zones_of};
 
 use crate::model::{SettingsKind, Zone};
 use fb_types::{Bounds, Items, Text};
@@ -59,14 +59,14 @@ fn only(alloc: Global, id: &str) -> Result<Vec<Text>, AllocError>
     Ok(codes)
 }
 
-#[tactic(auto, using(json_reading::proofs::Refused::refused), unfolding(crate::specs::Zones::codes_of))]
-fn codes_of(
+#[tactic(auto, using(json_reading::proofs::Refused::refused), unfolding(crate::specs::Zones::listed_codes))]
+fn listed_codes(
     alloc: Global,
     earlier: &NameTable,
     id: &str,
     at: &Here<'_, SettingsKind>,
 ) -> Result<Vec<Text>, ReadError<SettingsKind>>
-    ensures { Gives (λ v. v.items) result (codes_of earlier.now id.now (at_of at.now)) }
+    ensures { Gives (λ v. v.items) result (listed_codes earlier.now id.now (at_of at.now)) }
 {
     let reader = CodeReader { earlier };
     let mut table = NameTable::new(alloc);
@@ -158,7 +158,7 @@ impl ItemReader for ZoneReader {
         if has_id(id, before) {
             return Err(at.fault_in(alloc, "id", SettingsKind::Twice));
         }
-        let codes = codes_of(alloc, index, id, at)?;
+        let codes = listed_codes(alloc, index, id, at)?;
         let core = at.optional_truth(alloc, "core")?.unwrap_or(true);
         let bounds = bounds_of(alloc, core, at)?;
         note_codes(alloc, index, &codes)?;

@@ -7,7 +7,7 @@ use Rattle.name_tables.specs.Names.{is_among}
 use Rattle.name_tables.specs.Tables.{with_name}
 use Rattle.ucte_reader.specs.Codes.{first_code, second_code, code_text, id_text}
 use Rattle.first_fault.specs.Checks.{first_failing}
-use Rattle.ucte_reader.specs.Branches.{is_running, is_coupler, is_in_operation, branch_kind, status_in, reactance_in, voltage_in, limit_in, known_status, known_reactance, least_reactance, susceptance_in, phase_by, branch_of}
+use Rattle.ucte_reader.specs.Branches.{is_running, is_coupler, is_in_operation, branch_kind, status_in, reactance_in, voltage_in, current_limit_in, known_status, known_reactance, least_reactance, susceptance_in, phase_by, branch_of}
 use Rattle.ucte_reader.specs.Steps.{IsElectrical, AreEnds, electrical_fault, joined_fault, branch_limit_fault, branch_ids, place_in}
 use Rattle.ucte_reader.specs.declared.block.Form.{Form}
 use Rattle.ucte_reader.specs.declared.status.Status.{Status}
@@ -35,7 +35,7 @@ branch_of-is known shift form status line ends e b status_is ends_are e_is id ki
     let to_is : b.to ≡ place_in known (code_text (second_code line)) = to ∙ ends_are.to_is in
     let operation_is : b.in_operation ≡ is_in_operation (known_status form line) = in_operation ∙ ap is_in_operation same in
     let b_same : b.b ≡ (if is_running (known_status form line) then pos (susceptance_in form line) else pos 0) = b_is ∙ e_is.b_is ∙ ap (λ (s : Status). if is_running s then pos (susceptance_in form line) else pos 0) same in
-    let current_is : b.current ≡ unwrap_or (limit_in form line) None = current ∙ e_is.current_is in
+    let current_is : b.current ≡ unwrap_or (current_limit_in form line) None = current ∙ e_is.current_is in
     let floored_is : b.floored ≡ (is_running (known_status form line) && nat_lt (nat_abs (known_reactance form line)) least_reactance) = floored ∙ e_is.floored_is ∙ ap (λ (s : Status). is_running s && nat_lt (nat_abs (known_reactance form line)) least_reactance) same in
     λ i. record { id = id i; kind = kind_is i; from = from_is i; to = to_is i; in_operation = operation_is i; b = b_same i; phi = phi i; current = current_is i; floored = floored_is i }
 
@@ -54,7 +54,7 @@ joined_fault-behind earlier form line status known fresh =
   where
     numbers : Status → List (Bool × GridKind)
     numbers s =
-        ((is_none (reactance_in form line) && not (is_coupler s)) || is_none (voltage_in form line) || is_none (limit_in form line), BadNumber)
+        ((is_none (reactance_in form line) && not (is_coupler s)) || is_none (voltage_in form line) || is_none (current_limit_in form line), BadNumber)
         ∷ (is_running s && int_lt (known_reactance form line) (pos 0), NegativeReactance)
         ∷ (is_running s && (nat_lt (susceptance_in form line) 1 || nat_lt (10 ^ 11) (susceptance_in form line)), SusceptanceOutOfRange)
         ∷ []

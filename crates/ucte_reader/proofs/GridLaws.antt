@@ -11,7 +11,7 @@ use Rattle.fb_types.specs.declared.grid.Grid.{Grid}
 use Rattle.first_fault.specs.FirstFault.{IsFirstFault, HasNoFault}
 use Rattle.name_tables.specs.Names.{value_at, numbered_from}
 use Rattle.ucte_reader.specs.Blocks.{Placed}
-use Rattle.ucte_reader.specs.Nodes.{codes_of}
+use Rattle.ucte_reader.specs.Nodes.{node_codes}
 use Rattle.ucte_reader.specs.Facts.{Names, nodes_of, place_of, phase_of, names_of, branches_by, branches_of}
 use Rattle.ucte_reader.specs.File.{file_of, fault_by, fault_among, IsGridFault, IsGridOf, Reads, IsFault, IsGrid}
 use Rattle.ucte_reader.specs.Steps.{capped, names_in, place_in, shift_in}
@@ -47,7 +47,7 @@ capped_small n h = omega arith
 place_in-known : (known : Known) (all : List Placed) → IsKnown known all → length (nodes_of all) ≤ 4096 → place_in known ≡ place_of all
 place_in-known known all k few = fun_ext (λ code.
     ap (λ (o : Option ℕ). capped (unwrap_or o 0)) (k.places code)
-    ∙ capped_small (place_of all code) (omega (arith, few, numbered_within 0 (codes_of (nodes_of all)) code, length-map (nodes_of all) (λ n. n.code))))
+    ∙ capped_small (place_of all code) (omega (arith, few, numbered_within 0 (node_codes (nodes_of all)) code, length-map (nodes_of all) (λ n. n.code))))
 
 shift_in-known : (known : Known) (all : List Placed) → IsKnown known all → shift_in known ≡ phase_of all
 shift_in-known known all k = fun_ext (λ id. ap (λ (o : Option ℤ). unwrap_or o (pos 0)) (k.shifts id))

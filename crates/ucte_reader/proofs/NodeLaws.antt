@@ -8,7 +8,7 @@ use Rattle.name_tables.specs.Names.{is_among}
 use Rattle.name_tables.specs.Tables.{with_name}
 use Rattle.ucte_reader.specs.Codes.{first_code, is_code, level_of, code_text}
 use Rattle.first_fault.specs.Checks.{first_failing}
-use Rattle.ucte_reader.specs.Nodes.{zone_text, kind_in, load_in, generation_in, node_of, codes_of, node_fault}
+use Rattle.ucte_reader.specs.Nodes.{zone_text, kind_in, load_in, generation_in, node_of, node_codes, node_fault}
 use Rattle.ucte_reader.specs.Steps.{power_fault, node_field_fault, node_limit_fault, ArePowers}
 use Rattle.ucte_reader.specs.declared.block.ZoneCode.{ZoneCode}
 use Rattle.ucte_reader.specs.declared.kind.GridKind.{GridKind}
@@ -28,11 +28,11 @@ node_of-is zone line n code_is zone_is level_is kind_is powers =
     λ i. record { code = code_is i; zone = zone_is i; level = level_is i; kind = kind i; load = load i; generation = generation i }
 
 -- behind the checks of the code
-pub node_fault-behind : (earlier : List Node) (zone : ZoneCode) (line : List ℕ) → is_code (first_code line) ≡ true → is_among (codes_of earlier) (code_text (first_code line)) ≡ false
+pub node_fault-behind : (earlier : List Node) (zone : ZoneCode) (line : List ℕ) → is_code (first_code line) ≡ true → is_among (node_codes earlier) (code_text (first_code line)) ≡ false
     → node_fault earlier zone line ≡ option_or (node_field_fault line) (node_limit_fault earlier (node_of zone line))
 unfolding node_fault
 node_fault-behind earlier zone line good fresh =
-    ap (λ (b : Bool). cond (not b) (Some BadCode) (cond (is_among (codes_of earlier) (code_text (first_code line))) (Some DuplicateNode) (first_failing rest))) good
+    ap (λ (b : Bool). cond (not b) (Some BadCode) (cond (is_among (node_codes earlier) (code_text (first_code line))) (Some DuplicateNode) (first_failing rest))) good
     ∙ ap (λ (b : Bool). cond b (Some DuplicateNode) (first_failing rest)) fresh
     ∙ first_failing-append fields limits
   where
@@ -46,10 +46,10 @@ node_fault-behind earlier zone line good fresh =
     rest = fields ++ limits
 
 -- a new name goes behind the codes
-pub codes_with_name : (old new : List (List ℕ)) (nodes : List Node) (name code : List ℕ) → old ≡ codes_of nodes → is_among old name ≡ false → new ≡ with_name old name → code ≡ name
-    → new ≡ codes_of nodes ++ code ∷ []
+pub codes_with_name : (old new : List (List ℕ)) (nodes : List Node) (name code : List ℕ) → old ≡ node_codes nodes → is_among old name ≡ false → new ≡ with_name old name → code ≡ name
+    → new ≡ node_codes nodes ++ code ∷ []
 codes_with_name old new nodes name code old_is fresh new_is same =
-    new_is ∙ ap (λ (b : Bool). cond b old (old ++ name ∷ [])) fresh ∙ ap (λ (xs : List (List ℕ)). xs ++ name ∷ []) old_is ∙ ap (λ (c : List ℕ). codes_of nodes ++ c ∷ []) (sym same)
+    new_is ∙ ap (λ (b : Bool). cond b old (old ++ name ∷ [])) fresh ∙ ap (λ (xs : List (List ℕ)). xs ++ name ∷ []) old_is ∙ ap (λ (c : List ℕ). node_codes nodes ++ c ∷ []) (sym same)
 
 pub node_of-code : (zone : ZoneCode) (line : List ℕ) → (node_of zone line).code ≡ code_text (first_code line)
 unfolding node_of

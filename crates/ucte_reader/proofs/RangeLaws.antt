@@ -17,7 +17,7 @@ use Rattle.first_fault.specs.FirstFault.{HasNoFault}
 use Rattle.ucte_reader.specs.Blocks.{Placed}
 use Rattle.ucte_reader.specs.Codes.{first_code, second_code, code_text}
 use Rattle.first_fault.specs.Checks.{first_failing}
-use Rattle.ucte_reader.specs.Nodes.{codes_of}
+use Rattle.ucte_reader.specs.Nodes.{node_codes}
 use Rattle.ucte_reader.specs.Branches.{status_at, is_running, is_coupler, is_in_operation, branch_kind, known_status, susceptance_in, branch_of, branch_checks, branch_fault}
 use Rattle.ucte_reader.specs.Facts.{branch_in, nodes_of, place_of, phase_of, names_of, branches_of}
 use Rattle.ucte_reader.specs.File.{Earlier, earlier_of, line_fault, fault_among}
@@ -53,7 +53,7 @@ numbered_below n (c ∷ cs) code e = by_test (bytes_eq code c) e (numbered_below
     by_test false h later = omega (arith, later h)
 
 pub place_of-below : (all : List Placed) (code : List ℕ) → (names_of all).is_node code ≡ true → place_of all code < length (nodes_of all)
-place_of-below all code known = omega (arith, numbered_below 0 (codes_of (nodes_of all)) code known, length-map (nodes_of all) (λ n. n.code))
+place_of-below all code known = omega (arith, numbered_below 0 (node_codes (nodes_of all)) code known, length-map (nodes_of all) (λ n. n.code))
 
 -- ---- tests
 

@@ -1,6 +1,5 @@
 -- The tables after one more line.
-use Rattle.std.proofs.Common.{◌≡◌, ℕ, ℤ, ◌+◌, Bool, true, false, cond, ◌||◌, List, [], ◌∷◌, ◌++◌, length, map, Option, Some, None, refl, sym, ap, ◌∙◌, ◌≤◌, ◌==◌, append_assoc, add-zero, arith}
-use Rattle.std.specs.Prelude.{is_some}
+use Rattle.std.proofs.Common.{◌≡◌, ℕ, ℤ, ◌+◌, Bool, true, false, cond, ◌||◌, List, [], ◌∷◌, ◌++◌, length, map, Option, Some, None, refl, sym, ap, ◌∙◌, ◌≤◌, ◌==◌, add-zero, arith}
 use Rattle.std.specs.Option.{option_to_list}
 use Rattle.std.specs.List.{cons_option}
 use Rattle.std.specs.Str.{bytes_eq}
@@ -10,10 +9,11 @@ use Rattle.std.proofs.lemmas.List.Folds.{list_any-append}
 use Rattle.std.proofs.lemmas.Slice.Eq.{bytes_eq-Decides}
 use Rattle.fb_types.specs.declared.grid.Node.{Node}
 use Rattle.name_tables.specs.Names.{is_among, value_at, numbered_from}
-use Rattle.name_tables.specs.Tables.{with_name, with_names, with_entry, with_entries}
+use Rattle.name_tables.specs.Tables.{with_name, with_names, with_entries}
+use Rattle.name_tables.proofs.EntryLaws.{value_at-with_entry}
 use Rattle.ucte_lines.specs.Lines.{pieces_of, without_return}
 use Rattle.ucte_reader.specs.Blocks.{Placed, placed_from, block_after}
-use Rattle.ucte_reader.specs.Nodes.{codes_of}
+use Rattle.ucte_reader.specs.Nodes.{node_codes}
 use Rattle.ucte_reader.specs.Facts.{node_in, transformer_in, regulation_in, nodes_of, transformers_of, regulations_of}
 use Rattle.ucte_reader.specs.Passes.{left, AreNoted, IsKnown}
 use Rattle.ucte_reader.specs.declared.block.Block.{Block}
@@ -27,33 +27,11 @@ left_step block rest line after e = ap (λ (ls : List (List ℕ)). placed_from b
 
 -- ---- one more entry
 
-others : {V : Type 0} (entries rest : List (List ℕ × V)) (name : List ℕ) (value : V) (q : List ℕ) → bytes_eq q name ≡ false → value_at (entries ++ rest) q ≡ value_at (entries ++ (name, value) ∷ rest) q
-others [] rest name value q e = sym (ap (λ (b : Bool). cond b (Some value) (value_at rest q)) e)
-others {V} (x ∷ xs) rest name value q e = ap (λ (o : Option V). cond (bytes_eq q x.0) (Some x.1) o) (others xs rest name value q e)
-
-known_first : {V : Type 0} (entries rest : List (List ℕ × V)) (name : List ℕ) (value : V) (q : List ℕ) → is_some (value_at entries name) ≡ true → value_at (entries ++ rest) q ≡ value_at (entries ++ (name, value) ∷ rest) q
-known_first [] rest name value q e = absurd cc
-known_first {V} (x ∷ xs) rest name value q e = by_test (bytes_eq name x.0) refl e (known_first xs rest name value q) (bytes_eq q x.0) refl
-  where
-    by_test : (b : Bool) → bytes_eq name x.0 ≡ b → is_some (cond b (Some x.1) (value_at xs name)) ≡ true
-        → (is_some (value_at xs name) ≡ true → value_at (xs ++ rest) q ≡ value_at (xs ++ (name, value) ∷ rest) q)
-        → (d : Bool) → bytes_eq q x.0 ≡ d → cond d (Some x.1) (value_at (xs ++ rest) q) ≡ cond d (Some x.1) (value_at (xs ++ (name, value) ∷ rest) q)
-    by_test b same h later true here = refl
-    by_test true same h later false here = others xs rest name value q (ap (bytes_eq q) ((bytes_eq-Decides name x.0).0 same) ∙ here)
-    by_test false same h later false here = later h
-
-pub value_at-with_entry : {V : Type 0} (entries rest : List (List ℕ × V)) (name : List ℕ) (value : V) (q : List ℕ) → value_at (with_entry entries name value ++ rest) q ≡ value_at (entries ++ (name, value) ∷ rest) q
-value_at-with_entry {V} entries rest name value q = by_test (is_some (value_at entries name)) refl
-  where
-    by_test : (b : Bool) → is_some (value_at entries name) ≡ b → value_at (cond b entries (entries ++ (name, value) ∷ []) ++ rest) q ≡ value_at (entries ++ (name, value) ∷ rest) q
-    by_test true e = known_first entries rest name value q e
-    by_test false e = ap (λ (xs : List (List ℕ × V)). value_at xs q) (append_assoc entries ((name, value) ∷ []) rest)
-
 noted_places : (entries : List (List ℕ × ℕ)) (count : ℕ) (node : Option Node) (nodes : List Node) (q : List ℕ)
-    → value_at (with_entries entries (numbered_from count (codes_of (option_to_list node))) ++ numbered_from (count + length (option_to_list node)) (codes_of nodes)) q
-    ≡ value_at (entries ++ numbered_from count (codes_of (cons_option node nodes))) q
-noted_places entries count None nodes q = ap (λ (n : ℕ). value_at (entries ++ numbered_from n (codes_of nodes)) q) (add-zero count)
-noted_places entries count (Some n) nodes q = value_at-with_entry entries (numbered_from (count + 1) (codes_of nodes)) n.code count q
+    → value_at (with_entries entries (numbered_from count (node_codes (option_to_list node))) ++ numbered_from (count + length (option_to_list node)) (node_codes nodes)) q
+    ≡ value_at (entries ++ numbered_from count (node_codes (cons_option node nodes))) q
+noted_places entries count None nodes q = ap (λ (n : ℕ). value_at (entries ++ numbered_from n (node_codes nodes)) q) (add-zero count)
+noted_places entries count (Some n) nodes q = value_at-with_entry entries (numbered_from (count + 1) (node_codes nodes)) n.code count q
 
 noted_shifts : (entries : List (List ℕ × ℤ)) (regulation : Option (List ℕ × ℤ)) (regulations : List (List ℕ × ℤ)) (q : List ℕ)
     → value_at (with_entries entries (option_to_list regulation) ++ regulations) q ≡ value_at (entries ++ cons_option regulation regulations) q
@@ -91,15 +69,15 @@ noted_names names (Some n) more q = ap (λ (b : Bool). b || is_among more q) (is
 -- ---- one more line
 
 pub AreNoted-step : (old new : Known) (block : Block) (line : List ℕ) (rest all : List Placed) → AreNoted old (record { block = block; text = line } ∷ rest) all
-    → new.places ≡ with_entries old.places (numbered_from old.count (codes_of (option_to_list (node_in block line))))
+    → new.places ≡ with_entries old.places (numbered_from old.count (node_codes (option_to_list (node_in block line))))
     → new.count ≡ old.count + length (option_to_list (node_in block line))
     → new.transformers ≡ with_names old.transformers (option_to_list (transformer_in block line))
     → new.shifts ≡ with_entries old.shifts (option_to_list (regulation_in block line))
     → AreNoted new rest all
 AreNoted-step old new block line rest all noted places count transformers shifts = record {
   places = λ code.
-      ap (λ (es : List (List ℕ × ℕ)). value_at (es ++ numbered_from new.count (codes_of (nodes_of rest))) code) places
-      ∙ ap (λ (n : ℕ). value_at (with_entries old.places (numbered_from old.count (codes_of (option_to_list (node_in block line)))) ++ numbered_from n (codes_of (nodes_of rest))) code) count
+      ap (λ (es : List (List ℕ × ℕ)). value_at (es ++ numbered_from new.count (node_codes (nodes_of rest))) code) places
+      ∙ ap (λ (n : ℕ). value_at (with_entries old.places (numbered_from old.count (node_codes (option_to_list (node_in block line)))) ++ numbered_from n (node_codes (nodes_of rest))) code) count
       ∙ noted_places old.places old.count (node_in block line) (nodes_of rest) code ∙ noted.places code;
   transformers = λ id.
       ap (λ (names : List (List ℕ)). is_among names id || is_among (transformers_of rest) id) transformers

@@ -1,6 +1,6 @@
 -- Lines and transformers of the UCTE data exchange format. Voltages are in millionths of a kilovolt, reactances in
 -- millionths of an ohm, susceptances in kW/rad, currents in milliamperes.
-use Rattle.std.specs.Prelude.{ℕ, ℤ, pos, negsuc, nat_abs, ◌+◌, ◌*◌, ◌/◌, ◌^◌, Bool, true, false, not, ◌==◌, ◌||◌, ◌&&◌, nat_lt, nat_le, int_lt, List, [], ◌∷◌, length, slice_index, Option, Some, None, is_none, unwrap_or, if◌then◌else◌}
+use Rattle.std.specs.Prelude.{ℕ, ℤ, pos, negsuc, nat_abs, ◌+◌, ◌*◌, ◌/◌, ◌^◌, Bool, true, false, not, ◌==◌, ◌||◌, ◌&&◌, nat_lt, nat_le, int_lt, List, [], ◌∷◌, ◌++◌, length, slice_index, Option, Some, None, is_none, unwrap_or, if◌then◌else◌}
 use Rattle.fb_types.specs.declared.grid.Branch.{Branch}
 use Rattle.fb_types.specs.declared.grid.BranchKind.{BranchKind}
 use Rattle.fb_types.specs.declared.grid.BranchKind.TheVariants as kinds
@@ -76,18 +76,18 @@ voltage_in Line line = Some (level_voltage (level_of (first_code line)))
 voltage_in Transformer line = rated_voltage (number_of (field_of line 23 27))
 
 -- 0 is no limit; a milliampere is 1000 millionths of an ampere
-abbrev pub limit_at : Option ℤ → Option (Option ℤ)
-limit_at None = None
-limit_at (Some (pos n)) = Some (if n == 0 then None else Some (pos (n / 1000)))
-limit_at (Some (negsuc n)) = None
+abbrev pub current_limit_at : Option ℤ → Option (Option ℤ)
+current_limit_at None = None
+current_limit_at (Some (pos n)) = Some (if n == 0 then None else Some (pos (n / 1000)))
+current_limit_at (Some (negsuc n)) = None
 
 -- the current limit; blank is no limit
-unfoldable pub limit_of : List ℕ → Option (Option ℤ)
-limit_of text = if length text == 0 then Some None else limit_at (number_of text)
+unfoldable pub current_limit_of : List ℕ → Option (Option ℤ)
+current_limit_of text = if length text == 0 then Some None else current_limit_at (number_of text)
 
-abbrev pub limit_in : Form → List ℕ → Option (Option ℤ)
-limit_in Line line = limit_of (field_of line 46 51)
-limit_in Transformer line = limit_of (field_of line 71 76)
+abbrev pub current_limit_in : Form → List ℕ → Option (Option ℤ)
+current_limit_in Line line = current_limit_of (field_of line 46 51)
+current_limit_in Transformer line = current_limit_of (field_of line 71 76)
 
 -- ---- the susceptance
 
@@ -129,22 +129,41 @@ branch_of place_of shift_of form line = record {
   in_operation = is_in_operation (known_status form line);
   b = if is_running (known_status form line) then pos (susceptance_in form line) else pos 0;
   phi = phase_by shift_of form (id_text line);
-  current = unwrap_or (limit_in form line) None;
+  current = unwrap_or (current_limit_in form line) None;
   floored = is_running (known_status form line) && nat_lt (nat_abs (known_reactance form line)) least_reactance;
 }
 
--- the checks of a line or a transformer, in order, knowing the nodes of the file, after branches of these ids
-abbrev pub branch_checks : (List ℕ → Bool) → List (List ℕ) → Form → List ℕ → List (Bool × GridKind)
-branch_checks is_node earlier form line =
+-- ---- the checks of a line or a transformer, in order
+
+-- of its ends, knowing the nodes of the file
+abbrev pub end_checks : (List ℕ → Bool) → List ℕ → List (Bool × GridKind)
+end_checks is_node line =
     (not (is_code (first_code line)) || not (is_code (second_code line)), BadCode)
     ∷ (not (is_node (code_text (first_code line))) || not (is_node (code_text (second_code line))), UnknownNode)
-    ∷ (is_none (status_in form line), BadStatus)
-    ∷ (is_among earlier (id_text line), DuplicateBranch)
-    ∷ ((is_none (reactance_in form line) && not (is_coupler (known_status form line))) || is_none (voltage_in form line) || is_none (limit_in form line), BadNumber)
-    ∷ (is_running (known_status form line) && int_lt (known_reactance form line) (pos 0), NegativeReactance)
-    ∷ (is_running (known_status form line) && (nat_lt (susceptance_in form line) 1 || nat_lt (10 ^ 11) (susceptance_in form line)), SusceptanceOutOfRange)
-    ∷ (nat_lt 16384 (length earlier + 1), TooMany)
     ∷ []
 
+-- of its numbers: a coupler needs no reactance, and a susceptance counts in operation alone
+abbrev pub electrical_checks : Form → Status → List ℕ → List (Bool × GridKind)
+electrical_checks form status line =
+    ((is_none (reactance_in form line) && not (is_coupler status)) || is_none (voltage_in form line) || is_none (current_limit_in form line), BadNumber)
+    ∷ (is_running status && int_lt (known_reactance form line) (pos 0), NegativeReactance)
+    ∷ (is_running status && (nat_lt (susceptance_in form line) 1 || nat_lt (10 ^ 11) (susceptance_in form line)), SusceptanceOutOfRange)
+    ∷ []
+
+-- of the count of branches, after branches of these ids
+abbrev pub count_checks : List (List ℕ) → List (Bool × GridKind)
+count_checks earlier = (nat_lt 16384 (length earlier + 1), TooMany) ∷ []
+
+-- all behind those of the ends
+abbrev pub joined_checks : List (List ℕ) → Form → List ℕ → List (Bool × GridKind)
+joined_checks earlier form line =
+    (is_none (status_in form line), BadStatus)
+    ∷ (is_among earlier (id_text line), DuplicateBranch)
+    ∷ (electrical_checks form (known_status form line) line ++ count_checks earlier)
+
+abbrev pub branch_checks : (List ℕ → Bool) → List (List ℕ) → Form → List ℕ → List (Bool × GridKind)
+branch_checks is_node earlier form line = end_checks is_node line ++ joined_checks earlier form line
+
+-- the first that fails, knowing the nodes of the file, after branches of these ids
 unfoldable pub branch_fault : (List ℕ → Bool) → List (List ℕ) → Form → List ℕ → Option GridKind
 branch_fault is_node earlier form line = first_failing (branch_checks is_node earlier form line)

@@ -6,60 +6,39 @@ use Rattle.fb_types.specs.declared.grid.Branch.{Branch}
 use Rattle.name_tables.specs.Names.{is_among, value_at, numbered_from}
 use Rattle.ucte_reader.specs.Blocks.{Placed, is_entry}
 use Rattle.ucte_reader.specs.Codes.{id_text}
-use Rattle.ucte_reader.specs.Nodes.{node_of, codes_of}
+use Rattle.ucte_reader.specs.Nodes.{node_of, node_codes}
 use Rattle.ucte_reader.specs.Branches.{branch_of}
 use Rattle.ucte_reader.specs.Regulations.{shift_of}
-use Rattle.ucte_reader.specs.declared.block.Form.TheVariants.{Line, Transformer}
+use Rattle.ucte_reader.specs.declared.block.Form.TheVariants.{Transformer}
 use Rattle.ucte_reader.specs.declared.block.Block.{Block}
-use Rattle.ucte_reader.specs.declared.block.Block.TheVariants.{Outside, Skipped, Nodes, Zone, Branches, Regulations}
+use Rattle.ucte_reader.specs.declared.block.Block.TheVariants.{Zone, Branches, Regulations}
 
 -- ---- one line
 
 -- the node of a line in the block of a zone
 abbrev pub node_in : Block → List ℕ → Option Node
-node_in Outside text = None
-node_in Skipped text = None
-node_in Nodes text = None
 node_in (Zone zone) text = if is_entry text then Some (node_of zone text) else None
-node_in (Branches form) text = None
-node_in Regulations text = None
+node_in _ text = None
 
 -- the branch of a line in a block of lines or of transformers
 abbrev pub branch_in : (List ℕ → ℕ) → (List ℕ → ℤ) → Block → List ℕ → Option Branch
-branch_in place_at shift_at Outside text = None
-branch_in place_at shift_at Skipped text = None
-branch_in place_at shift_at Nodes text = None
-branch_in place_at shift_at (Zone zone) text = None
 branch_in place_at shift_at (Branches form) text = if is_entry text then Some (branch_of place_at shift_at form text) else None
-branch_in place_at shift_at Regulations text = None
+branch_in place_at shift_at _ text = None
 
 -- its id
 abbrev pub id_in : Block → List ℕ → Option (List ℕ)
-id_in Outside text = None
-id_in Skipped text = None
-id_in Nodes text = None
-id_in (Zone zone) text = None
 id_in (Branches form) text = if is_entry text then Some (id_text text) else None
-id_in Regulations text = None
+id_in _ text = None
 
 -- the id of a line in the block of transformers
 abbrev pub transformer_in : Block → List ℕ → Option (List ℕ)
-transformer_in Outside text = None
-transformer_in Skipped text = None
-transformer_in Nodes text = None
-transformer_in (Zone zone) text = None
-transformer_in (Branches Line) text = None
 transformer_in (Branches Transformer) text = if is_entry text then Some (id_text text) else None
-transformer_in Regulations text = None
+transformer_in _ text = None
 
 -- the id and the phase shift of a line in the block of regulations
 abbrev pub regulation_in : Block → List ℕ → Option (List ℕ × ℤ)
-regulation_in Outside text = None
-regulation_in Skipped text = None
-regulation_in Nodes text = None
-regulation_in (Zone zone) text = None
-regulation_in (Branches form) text = None
 regulation_in Regulations text = if is_entry text then Some (id_text text, shift_of text) else None
+regulation_in _ text = None
 
 -- ---- all lines
 
@@ -80,7 +59,7 @@ regulations_of lines = filter_map (λ p. regulation_in p.block p.text) lines
 
 -- the codes of all nodes with their places, counted from 0
 abbrev pub places_of : List Placed → List (List ℕ × ℕ)
-places_of lines = numbered_from 0 (codes_of (nodes_of lines))
+places_of lines = numbered_from 0 (node_codes (nodes_of lines))
 
 -- the names that the lines are judged by: the nodes and the transformers of the file
 pub record Names : Type 0 where

@@ -40,14 +40,14 @@ node_of zone line = record {
   generation = unwrap_or (generation_in line) (pos 0);
 }
 
-abbrev pub codes_of : List Node → List (List ℕ)
-codes_of nodes = map (λ n. n.code) nodes
+abbrev pub node_codes : List Node → List (List ℕ)
+node_codes nodes = map (λ n. n.code) nodes
 
 -- the checks of a node line, in order, after these nodes
 unfoldable pub node_fault : List Node → ZoneCode → List ℕ → Option GridKind
 node_fault earlier zone line = first_failing (
     (not (is_code (first_code line)), BadCode)
-    ∷ (is_among (codes_of earlier) (code_text (first_code line)), DuplicateNode)
+    ∷ (is_among (node_codes earlier) (code_text (first_code line)), DuplicateNode)
     ∷ (is_none (kind_in line), BadStatus)
     ∷ (is_none (load_in line) || is_none (generation_in line), BadNumber)
     ∷ (nat_lt (10 ^ 12) (sum_by exchange_of earlier + exchange_of (node_of zone line)), InjectionOutOfRange)

@@ -4,7 +4,7 @@ use Rattle.name_tables.specs.Names.{is_among, numbered_from, value_at}
 use Rattle.ucte_lines.specs.Lines.{lines_of}
 use Rattle.first_fault.specs.FirstFault.{IsFirstFault, HasNoFault}
 use Rattle.ucte_reader.specs.Blocks.{Placed, placed_from}
-use Rattle.ucte_reader.specs.Nodes.{codes_of}
+use Rattle.ucte_reader.specs.Nodes.{node_codes}
 use Rattle.ucte_reader.specs.Facts.{nodes_of, branches_by, transformers_of, regulations_of, places_of}
 use Rattle.ucte_reader.specs.File.{Earlier, fault_by}
 use Rattle.ucte_reader.specs.Steps.{KeepsNodes, KeepsBranches, branch_ids, names_in, place_in, shift_in}
@@ -24,7 +24,7 @@ left block text = placed_from block (lines_of text)
 
 -- the tables, with what the lines that are left add, are those of all lines
 pub record AreNoted (known : Known) (rest all : List Placed) : Type 0 where
-  pub places : (code : List ℕ) → value_at (known.places ++ numbered_from known.count (codes_of (nodes_of rest))) code ≡ value_at (places_of all) code
+  pub places : (code : List ℕ) → value_at (known.places ++ numbered_from known.count (node_codes (nodes_of rest))) code ≡ value_at (places_of all) code
   pub transformers : (id : List ℕ) → (is_among known.transformers id || is_among (transformers_of rest) id) ≡ is_among (transformers_of all) id
   pub shifts : (id : List ℕ) → value_at (known.shifts ++ regulations_of rest) id ≡ value_at (regulations_of all) id
 

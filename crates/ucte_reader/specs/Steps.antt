@@ -10,10 +10,10 @@ use Rattle.phase_rule.specs.declared.Regulation.{Regulation}
 use Rattle.phase_rule.specs.declared.Regulation.TheVariants.{Asym}
 use Rattle.name_tables.specs.Names.{is_among, value_at}
 use Rattle.ucte_lines.specs.Fields.{field_of, number_of}
-use Rattle.ucte_reader.specs.Codes.{first_code, second_code, is_code, code_text, id_text}
+use Rattle.ucte_reader.specs.Codes.{first_code, second_code, is_code, code_text}
 use Rattle.first_fault.specs.Checks.{first_failing}
-use Rattle.ucte_reader.specs.Nodes.{node_of, codes_of, kind_in, load_in, generation_in}
-use Rattle.ucte_reader.specs.Branches.{is_running, is_coupler, status_in, reactance_in, voltage_in, limit_in, known_status, known_reactance, least_reactance, raised, susceptance_of, susceptance_in}
+use Rattle.ucte_reader.specs.Nodes.{node_of, node_codes, kind_in, load_in, generation_in}
+use Rattle.ucte_reader.specs.Branches.{is_running, reactance_in, voltage_in, current_limit_in, known_reactance, least_reactance, raised, susceptance_of, susceptance_in, end_checks, electrical_checks, count_checks, joined_checks}
 use Rattle.ucte_reader.specs.Regulations.{type_in, step_in, tap_in, angle_in, is_symmetrical, known_step, known_angle, half_turn, setting_checks}
 use Rattle.ucte_reader.specs.Facts.{Names}
 use Rattle.ucte_reader.specs.declared.block.ZoneCode.{ZoneCode}
@@ -27,7 +27,7 @@ use Rattle.ucte_reader.specs.declared.regulations.Setting.{Setting}
 use Rattle.ucte_reader.specs.declared.branches.Ends.{Ends}
 use Rattle.ucte_reader.specs.declared.branches.Branches.{Branches}
 use Rattle.ucte_reader.specs.declared.kind.GridKind.{GridKind}
-use Rattle.ucte_reader.specs.declared.kind.GridKind.TheVariants.{BadCode, UnknownNode, BadStatus, DuplicateBranch, BadNumber, NegativeReactance, SusceptanceOutOfRange, InjectionOutOfRange, TooMany, BadPhase}
+use Rattle.ucte_reader.specs.declared.kind.GridKind.TheVariants.{BadStatus, BadNumber, NegativeReactance, SusceptanceOutOfRange, InjectionOutOfRange, TooMany, BadPhase}
 use Rattle.ucte_reader.specs.declared.kind.LineError.{LineError}
 use Rattle.ucte_reader.specs.declared.kind.LineError.TheVariants.{Fault, Memory}
 
@@ -74,14 +74,14 @@ pub record IsNodeOf (zone : ZoneCode) (line : List ℕ) (n : Node) : Type 0 wher
 
 -- the codes and the total are those of the nodes
 pub record KeepsNodes (nodes : Nodes) : Type 0 where
-  pub codes : nodes.codes ≡ codes_of nodes.nodes.items
+  pub codes : nodes.codes ≡ node_codes nodes.nodes.items
   pub total : nodes.total ≡ sum_by exchange_of nodes.nodes.items
   pub small : nodes.total ≤ 10 ^ 12
   pub few : length nodes.nodes.items ≤ 4096
 
 -- the total is that of the nodes, and the codes have this one more
 pub record IsNamed (nodes : Nodes) (code : List ℕ) : Type 0 where
-  pub codes : nodes.codes ≡ codes_of nodes.nodes.items ++ code ∷ []
+  pub codes : nodes.codes ≡ node_codes nodes.nodes.items ++ code ∷ []
   pub total : nodes.total ≡ sum_by exchange_of nodes.nodes.items
   pub small : nodes.total ≤ 10 ^ 12
   pub few : length nodes.nodes.items ≤ 4096
@@ -104,10 +104,7 @@ shift_in known id = unwrap_or (value_at known.shifts id) (pos 0)
 -- ---- branches
 
 abbrev pub end_fault : (List ℕ → Bool) → List ℕ → Option GridKind
-end_fault is_node line = first_failing (
-    (not (is_code (first_code line)) || not (is_code (second_code line)), BadCode)
-    ∷ (not (is_node (code_text (first_code line))) || not (is_node (code_text (second_code line))), UnknownNode)
-    ∷ [])
+end_fault is_node line = first_failing (end_checks is_node line)
 
 -- the places of the nodes of a line, whose first code is good
 pub record AreEnds (known : Known) (line : List ℕ) (ends : Ends) : Type 0 where
@@ -118,13 +115,13 @@ pub record AreEnds (known : Known) (line : List ℕ) (ends : Ends) : Type 0 wher
 -- the checks of the numbers: a coupler needs no reactance
 abbrev pub number_fault : Form → Bool → List ℕ → Option GridKind
 number_fault form needs_reactance line = first_failing (
-    ((is_none (reactance_in form line) && needs_reactance) || is_none (voltage_in form line) || is_none (limit_in form line), BadNumber)
+    ((is_none (reactance_in form line) && needs_reactance) || is_none (voltage_in form line) || is_none (current_limit_in form line), BadNumber)
     ∷ [])
 
 pub record AreNumbers (form : Form) (line : List ℕ) (numbers : Numbers) : Type 0 where
   pub reactance_is : numbers.reactance ≡ known_reactance form line
   pub voltage_is : voltage_in form line ≡ Some numbers.voltage
-  pub current_is : limit_in form line ≡ Some numbers.current
+  pub current_is : current_limit_in form line ≡ Some numbers.current
   pub reactance_small : nat_abs numbers.reactance ≤ 10 ^ 17
   pub voltage_small : numbers.voltage ≤ 10 ^ 9
 
@@ -136,30 +133,19 @@ running_fault voltage reactance = first_failing (
     ∷ [])
 
 abbrev pub electrical_fault : Form → Status → List ℕ → Option GridKind
-electrical_fault form status line = first_failing (
-    ((is_none (reactance_in form line) && not (is_coupler status)) || is_none (voltage_in form line) || is_none (limit_in form line), BadNumber)
-    ∷ (is_running status && int_lt (known_reactance form line) (pos 0), NegativeReactance)
-    ∷ (is_running status && (nat_lt (susceptance_in form line) 1 || nat_lt (10 ^ 11) (susceptance_in form line)), SusceptanceOutOfRange)
-    ∷ [])
+electrical_fault form status line = first_failing (electrical_checks form status line)
 
 pub record IsElectrical (form : Form) (status : Status) (line : List ℕ) (e : Electrical) : Type 0 where
   pub b_is : e.b ≡ (if is_running status then pos (susceptance_in form line) else pos 0)
-  pub current_is : e.current ≡ unwrap_or (limit_in form line) None
+  pub current_is : e.current ≡ unwrap_or (current_limit_in form line) None
   pub floored_is : e.floored ≡ (is_running status && nat_lt (nat_abs (known_reactance form line)) least_reactance)
 
 abbrev pub branch_limit_fault : List (List ℕ) → Option GridKind
-branch_limit_fault earlier = first_failing ((nat_lt 16384 (length earlier + 1), TooMany) ∷ [])
+branch_limit_fault earlier = first_failing (count_checks earlier)
 
 -- the checks behind those of the ends
 abbrev pub joined_fault : List (List ℕ) → Form → List ℕ → Option GridKind
-joined_fault earlier form line = first_failing (
-    (is_none (status_in form line), BadStatus)
-    ∷ (is_among earlier (id_text line), DuplicateBranch)
-    ∷ ((is_none (reactance_in form line) && not (is_coupler (known_status form line))) || is_none (voltage_in form line) || is_none (limit_in form line), BadNumber)
-    ∷ (is_running (known_status form line) && int_lt (known_reactance form line) (pos 0), NegativeReactance)
-    ∷ (is_running (known_status form line) && (nat_lt (susceptance_in form line) 1 || nat_lt (10 ^ 11) (susceptance_in form line)), SusceptanceOutOfRange)
-    ∷ (nat_lt 16384 (length earlier + 1), TooMany)
-    ∷ [])
+joined_fault earlier form line = first_failing (joined_checks earlier form line)
 
 abbrev pub branch_ids : List Branch → List (List ℕ)
 branch_ids branches = map (λ b. b.id) branches

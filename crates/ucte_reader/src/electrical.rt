@@ -2,7 +2,7 @@
 
 ghost use Rattle.std.specs.Prelude.{◌≡◌, ◌≤◌, ◌^◌, pos, nat_abs, IfOk, IfSome, IsTrue};
 ghost use Rattle.ucte_reader.specs.Codes.{first_code, is_code};
-ghost use Rattle.ucte_reader.specs.Branches.{reactance_in, level_voltage, rated_voltage as rated_voltage_of, voltage_in, limit_at, limit_of, limit_in, raised as raised_of, susceptance_of};
+ghost use Rattle.ucte_reader.specs.Branches.{reactance_in, level_voltage, rated_voltage as rated_voltage_of, voltage_in, current_limit_at, current_limit_of, current_limit_in, raised as raised_of, susceptance_of};
 ghost use Rattle.ucte_reader.specs.Steps.{Makes, number_fault, AreNumbers, running_fault, electrical_fault, IsElectrical};
 
 use crate::block::Form;
@@ -90,7 +90,7 @@ fn voltage(alloc: Global, form: Form, line: &[char]) -> Result<Option<u32>, Allo
 }
 
 fn limit_from(number: Option<i64>) -> Option<Option<i64>>
-    ensures { result ≡ limit_at number }
+    ensures { result ≡ current_limit_at number }
 {
     match number {
         None => None,
@@ -106,9 +106,9 @@ fn limit_from(number: Option<i64>) -> Option<Option<i64>>
     }
 }
 
-#[tactic(auto, unfolding(crate::specs::Branches::limit_of))]
+#[tactic(auto, unfolding(crate::specs::Branches::current_limit_of))]
 fn limit(alloc: Global, text: &[char]) -> Result<Option<Option<i64>>, AllocError>
-    ensures { IfOk result (λ o. o ≡ limit_of text.now) }
+    ensures { IfOk result (λ o. o ≡ current_limit_of text.now) }
 {
     if text.is_empty() {
         return Ok(Some(None));
@@ -122,7 +122,7 @@ fn current_limit(
     form: Form,
     line: &[char],
 ) -> Result<Option<Option<i64>>, AllocError>
-    ensures { IfOk result (λ o. o ≡ limit_in form line.now) }
+    ensures { IfOk result (λ o. o ≡ current_limit_in form line.now) }
 {
     match form {
         Form::Line => limit(alloc, field(line, 46, 51)),

@@ -77,6 +77,3 @@ pub fn read_grid(alloc: Global, bytes: &[u8]) -> Result<Grid, GridError>
 {
     read(alloc, bytes)
 }
-
-#[cfg(test)]
-mod tests;

@@ -6,7 +6,7 @@ ghost use Rattle.name_tables.specs.Tables.{with_entry, with_names, with_entries}
 ghost use Rattle.ucte_lines.specs.Lines.{is_heading as begins_with_marks};
 ghost use Rattle.std.specs.Option.{option_to_list};
 ghost use Rattle.ucte_reader.specs.Blocks.{placed, block_after};
-ghost use Rattle.ucte_reader.specs.Nodes.{codes_of};
+ghost use Rattle.ucte_reader.specs.Nodes.{node_codes};
 ghost use Rattle.ucte_reader.specs.Facts.{node_in, transformer_in, regulation_in};
 ghost use Rattle.ucte_reader.specs.Passes.{IsKnown};
 
@@ -53,7 +53,7 @@ fn note_line(
 ) -> Result<Block, AllocError>
     requires { known.old.count < 2 ^ 64 - 1 }
     ensures block { IfOk result (λ next. next ≡ block_after block line.now) }
-    ensures places { OnOk result (known.new.places ≡ with_entries known.old.places (numbered_from known.old.count (codes_of (option_to_list (node_in block line.now))))) }
+    ensures places { OnOk result (known.new.places ≡ with_entries known.old.places (numbered_from known.old.count (node_codes (option_to_list (node_in block line.now))))) }
     ensures count { OnOk result (known.new.count ≡ known.old.count + length (option_to_list (node_in block line.now))) }
     ensures transformers { OnOk result (known.new.transformers ≡ with_names known.old.transformers (option_to_list (transformer_in block line.now))) }
     ensures shifts { OnOk result (known.new.shifts ≡ with_entries known.old.shifts (option_to_list (regulation_in block line.now))) }

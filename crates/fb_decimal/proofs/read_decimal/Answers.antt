@@ -1,4 +1,4 @@
-use Rattle.std.proofs.Common.{ap, sym, subst, ◌∙◌}
+use Rattle.std.proofs.Common.{[], refl, ap, sym, subst, ◌∙◌}
 use Rattle.fb_decimal.specs.Reading.{ReadsAs, decimal_of}
 use Rattle.fb_decimal.proofs.Law.{reads_as, reads_spelling, reads_empty, reads_bad}
 use Rattle.fb_decimal.proofs.read_decimal.Goals as goal
@@ -14,3 +14,6 @@ returns-clause-empty c = λ e. c.read.ensures ∙ ap decimal_of c.as_bytes.ensur
 
 pub returns-clause-bad : goal.returns-clause-bad
 returns-clause-bad c = λ at ne f. c.read.ensures ∙ ap decimal_of c.as_bytes.ensures.value ∙ reads_bad c.args.text.now at ne f
+
+pub returns-clause-grammar : goal.returns-clause-grammar
+returns-clause-grammar c = record { reads = reads_as; spelled = reads_spelling; empty = reads_empty [] refl; bad = reads_bad }

@@ -4,5 +4,5 @@ use Rattle.glsk_keys.specs.Placing.{ArePlaced}
 use Rattle.glsk_keys.proofs.PlacingLaws.{defaults_placed}
 use Rattle.glsk_keys.proofs.columns.columns.Goals as goal
 
-pub placed-requires : goal.placed-requires
-placed-requires c = subst ArePlaced (sym c.in_ok-defaults.ensures) (defaults_placed (facts_of c.args.known.now) c.args.known.now.zones.now)
+pub place_series-requires : goal.place_series-requires
+place_series-requires c = subst ArePlaced (sym c.in_ok-defaults.ensures) (defaults_placed (facts_of c.args.known.now) c.args.known.now.zones.now)

@@ -3,7 +3,8 @@ use mir.Syntax.{w64, w128}
 use mir.Val.{SFits}
 use Rattle.std.proofs.lemmas.Int.{to_z-of_z}
 use Rattle.glsk_keys.specs.Measures.{total_of}
-use Rattle.glsk_keys.specs.Scaling.{IsScale, power_for, weights_from, block_with}
+use Rattle.glsk_keys.specs.Scales.{IsScale}
+use Rattle.glsk_keys.specs.Scaling.{power_for, weights_from, block_with}
 use Rattle.glsk_keys.proofs.ScalingLaws.{scale_some, scale_fits}
 use Rattle.glsk_keys.proofs.scaling.block_with.Goals as goal
 
@@ -21,8 +22,8 @@ weights-requires-clause-small c =
     let f = power_is c in
     simp to_z-of_z (subst (λ t. (c.power_for-power.result *ℤ t) ≤ℤ pos (10 ^ 12)) c.requires.total (scale_is c).fits)
 
-pub scaled-requires : goal.scaled-requires
-scaled-requires c =
+pub scaled_weight-requires : goal.scaled_weight-requires
+scaled_weight-requires c =
     let f : SFits w128 c.power_for-power.result = record { sfits = c.power_for-power.type_inv } in
     let g : SFits w128 c.args.total = c.ranges.total in
     let s : IsScale c.args.total c.power_for-power.result = simp to_z-of_z at c.power_for-power.ensures.scale in
@@ -34,9 +35,9 @@ returns-clause-block c =
     let f : SFits w128 c.power_for-power.result = record { sfits = c.power_for-power.type_inv } in
     let g : SFits w128 c.args.total = c.ranges.total in
     let h : SFits w64 c.args.share = c.ranges.share in
-    let k : SFits w64 c.scaled.result = record { sfits = c.scaled.type_inv } in
+    let k : SFits w64 c.scaled_weight.result = record { sfits = c.scaled_weight.type_inv } in
     let p : c.power_for-power.result ≡ power_for (total_of c.args.values.now) = simp to_z-of_z at c.power_for-power.ensures.power ∙ ap power_for c.requires.total in
-    let t : c.scaled.result ≡ power_for (total_of c.args.values.now) *ℤ total_of c.args.values.now = simp to_z-of_z at c.scaled.ensures ∙ (ap (λ z. z *ℤ c.args.total) p ∙ ap (λ z. power_for (total_of c.args.values.now) *ℤ z) c.requires.total) in
+    let t : c.scaled_weight.result ≡ power_for (total_of c.args.values.now) *ℤ total_of c.args.values.now = simp to_z-of_z at c.scaled_weight.ensures ∙ (ap (λ z. z *ℤ c.args.total) p ∙ ap (λ z. power_for (total_of c.args.values.now) *ℤ z) c.requires.total) in
     let w : c.from_vec.result ≡ weights_from 0 (power_for (total_of c.args.values.now)) c.args.values.now = c.from_vec.ensures.same ∙ (simp to_z-of_z at c.in_ok-weights.ensures ∙ ap (λ z. weights_from 0 z c.args.values.now) p) in
     simp to_z-of_z (rw (t, w) refl)
 

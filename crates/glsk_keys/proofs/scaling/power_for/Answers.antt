@@ -1,10 +1,11 @@
 use Rattle.std.proofs.Common.{◌≡◌, ◌-◌, ◌^◌, ◌≤◌, ◌<◌, ◌*ℤ◌, ◌<ℤ◌, pos, false, refl, arith, sym, ◌∙◌, to_z, subst}
-use Rattle.glsk_keys.specs.Scaling.{IsScale, power_up_to}
+use Rattle.glsk_keys.specs.ScaleFound.{power_up_to, scale_for}
+use Rattle.glsk_keys.specs.Scales.{IsScale}
 use mir.Syntax.{w128}
 use mir.Val.{SFits}
 use Rattle.std.proofs.lemmas.Int.{to_z-of_z}
 use Rattle.std.proofs.Math.Nat.{pow-le-pow_right}
-use Rattle.glsk_keys.proofs.ScalingLaws.{power_step, power_found, power_last, power_within, divided, scale_for, over_test}
+use Rattle.glsk_keys.proofs.ScalingLaws.{power_step, power_found, power_last, power_within, divided, over_test}
 use Rattle.glsk_keys.proofs.scaling.power_for.Goals as goal
 
 pub loop-step-init : goal.loop-step-init

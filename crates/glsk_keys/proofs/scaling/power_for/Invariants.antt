@@ -1,5 +1,5 @@
 use Rattle.std.proofs.Common.{◌≡◌, ◌-◌, ◌^◌, pos}
-use Rattle.glsk_keys.specs.Scaling.{power_up_to}
+use Rattle.glsk_keys.specs.ScaleFound.{power_up_to}
 use Rattle.glsk_keys.proofs.scaling.power_for.Given as goal
 
 abbrev pub invariant-loop-step : goal.invariant-loop-step

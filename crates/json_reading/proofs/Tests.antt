@@ -1,5 +1,5 @@
--- Tests that come out true or false.
-use Rattle.std.proofs.Common.{◌≡◌, Bool, true, false, ℤ, refl, arith}
+-- What follows of checks that passed.
+use Rattle.std.proofs.Common.{◌≡◌, Bool, true, false, ℤ, ◌<ℤ◌, refl, arith}
 use Rattle.std.specs.Prelude.{◌≤ℤ◌, ◌&&◌, ◌||◌, not, int_lt, int_le}
 use Rattle.std.proofs.lemmas.Int.{ints}
 
@@ -18,6 +18,9 @@ not_not false e = absurd cc
 
 pub at_most : (a b : ℤ) → int_le a b ≡ true → a ≤ℤ b
 at_most a b e = grind (arith, ints)
+
+pub above : (a b : ℤ) → int_le a b ≡ false → b <ℤ a
+above a b e = grind (arith, ints)
 
 pub not_below : (a b : ℤ) → int_lt a b ≡ false → b ≤ℤ a
 not_below a b e = grind (arith, ints)

@@ -1,4 +1,0 @@
-mod cases;
-mod documents;
-mod entries;
-mod grids;
