@@ -1,4 +1,4 @@
--- Words of private contracts.
+-- Words of private contracts, which nobody need believe.
 use Rattle.std.specs.Prelude.{ℕ, ◌+◌, ℤ, ◌-ℤ◌, Bool, true, false, Option, List, [], ◌∷◌, map, codes, drop}
 use Rattle.std.specs.Fmt.{signed_decimal}
 use Rattle.std.specs.List.{enumerate_from, zip}

@@ -11,8 +11,6 @@ mod columns;
 mod fields;
 mod rows;
 mod standing;
-#[cfg(test)]
-mod tests;
 
 use columns::header;
 use fb_certificate::{Certificate, Inputs};

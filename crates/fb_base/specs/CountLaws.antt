@@ -1,3 +1,4 @@
+-- Laws, which are proved: nobody need believe them.
 -- What follows of a count that rose, over several calls.
 use Rattle.std.specs.Prelude.{ℕ, ◌≤◌}
 use Rattle.std.proofs.Common.{arith}

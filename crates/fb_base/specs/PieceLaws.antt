@@ -1,3 +1,4 @@
+-- Laws, which are proved: nobody need believe them.
 -- What several pieces make that are put one after another. A text that is put in pieces leaves a prefix of the text at each
 -- failure, whatever the pieces are.
 use Rattle.std.specs.Prelude.{◌≡◌, ℕ, ◌+◌, List, ◌++◌, length, take, drop, min}

@@ -1,3 +1,4 @@
+-- Laws, which are proved: nobody need believe them.
 -- What Follows is for: a row that follows from rows holds wherever they do.
 use Rattle.std.proofs.Common.{◌≡◌, ℕ, suc, ◌^◌, ℤ, pos, negsuc, ◌+ℤ◌, ◌-ℤ◌, ◌*ℤ◌, List, length, get_or, sym, ap, ◌∙◌, subst, arith}
 use Rattle.std.specs.Prelude.{◌≤ℤ◌, Option, Some, None, IfSome, slice_get}

@@ -4,6 +4,33 @@ use fb_base::{MemShelf, MemSink};
 use fbcc_core::{Outcome, fbcc};
 use std::alloc::{AllocError, Global};
 
+/// The words of `domain`, without reductions and with them.
+pub const DOMAIN: [&str; 9] = [
+    "domain",
+    "--grid",
+    "grid.uct",
+    "--crac",
+    "crac.json",
+    "--glsk",
+    "glsk.json",
+    "--settings",
+    "settings.json",
+];
+
+pub const REDUCED: [&str; 11] = [
+    "domain",
+    "--grid",
+    "grid.uct",
+    "--crac",
+    "crac.json",
+    "--glsk",
+    "glsk.json",
+    "--settings",
+    "settings.json",
+    "--reductions",
+    "reductions.csv",
+];
+
 /// What a call answered and put.
 #[derive(Drop)]
 pub struct Answer {

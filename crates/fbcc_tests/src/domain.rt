@@ -1,36 +1,10 @@
 //! The command `domain`: tables that were worked out by hand, refusals in their order, and an outside that fails.
 
-use crate::calls::{Answer, call, call_into};
+use crate::calls::{Answer, DOMAIN, REDUCED, call, call_into};
 use fb_base::{MemShelf, MemSink};
 use fbcc_core::{Document, Fault};
 use std::alloc::{AllocError, Global};
 use std::test::Fail;
-
-const WORDS: [&str; 9] = [
-    "domain",
-    "--grid",
-    "grid.uct",
-    "--crac",
-    "crac.json",
-    "--glsk",
-    "glsk.json",
-    "--settings",
-    "settings.json",
-];
-
-const REDUCED: [&str; 11] = [
-    "domain",
-    "--grid",
-    "grid.uct",
-    "--crac",
-    "crac.json",
-    "--glsk",
-    "glsk.json",
-    "--settings",
-    "settings.json",
-    "--reductions",
-    "reductions.csv",
-];
 
 // ---- Grids: Belgium at the slack node, the Netherlands, and France.
 
@@ -329,8 +303,8 @@ const CASES: [Case; 13] = [
             "",
         ],
     },
-    // The shift drives b·φ/2 = 249791978.615 W round: against the line, and along the transformer. What it leaves of 500 MW is below
-    // the 350 MW that are to remain for trade.
+    // The shift drives b·φ/2 = 249791978.615 W round: against the line, and along the transformer. What it leaves of
+    // 500 MW is below the 350 MW that are to remain for trade.
     Case {
         name: "a phase shifter",
         nodes: [BE, SECOND_BE, ""],
@@ -418,7 +392,7 @@ fn tables_are_printed(rt: HostRuntime) -> Result<(), AllocError> {
             case.settings,
             case.keys,
         )?;
-        let answer = call(rt.alloc(), &WORDS, &mut shelf)?;
+        let answer = call(rt.alloc(), &DOMAIN, &mut shelf)?;
         let is_table = is_table(rt.alloc(), &answer, case)?;
         let name = case.name;
         assert!(rt; is_table, "{name}");
@@ -521,7 +495,7 @@ fn split_grids_are_refused(rt: HostRuntime) -> Result<(), AllocError> {
         TWO,
         KEYS_OF_TWO,
     )?;
-    let answer = call(rt.alloc(), &WORDS, &mut shelf)?;
+    let answer = call(rt.alloc(), &DOMAIN, &mut shelf)?;
     assert_eq!(rt; answer.outcome.status, 12);
     assert_eq!(rt;
         answer.err.bytes(),
@@ -552,14 +526,14 @@ fn numbers_past_range_are_refused(rt: HostRuntime) -> Result<(), AllocError> {
         TWO,
         KEYS_OF_TWO,
     )?;
-    let answer = call(rt.alloc(), &WORDS, &mut shelf)?;
+    let answer = call(rt.alloc(), &DOMAIN, &mut shelf)?;
     assert_eq!(rt; answer.outcome.status, 13);
     assert_eq!(rt;
         answer.err.bytes(),
         b"numbers past range in state 0\n".as_slice()
     );
     let mut shelf = shelf_of(rt.alloc(), &[STRONG], "", &ON_STRONG, TWO, KEYS_OF_TWO)?;
-    let answer = call(rt.alloc(), &WORDS, &mut shelf)?;
+    let answer = call(rt.alloc(), &DOMAIN, &mut shelf)?;
     assert_eq!(rt; answer.outcome.status, 0);
     Ok(())
 }
@@ -591,7 +565,7 @@ fn an_output_fails(rt: HostRuntime) -> Result<(), AllocError> {
     let mut out = MemSink::new(rt.alloc(), 10_000)?;
     out.fail_at(1, 100)?;
     let err = MemSink::new(rt.alloc(), 10_000)?;
-    let answer = call_into(rt.alloc(), &WORDS, &mut shelf, out, err)?;
+    let answer = call_into(rt.alloc(), &DOMAIN, &mut shelf, out, err)?;
     assert_eq!(rt; answer.outcome.status, 15);
     assert_eq!(rt; answer.out.bytes().len(), 100);
     assert_eq!(rt; answer.err.bytes(), b"cannot write\n".as_slice());

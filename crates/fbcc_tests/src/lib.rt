@@ -4,8 +4,22 @@
 #[cfg(test)]
 mod calls;
 #[cfg(test)]
+mod cracs;
+#[cfg(test)]
 mod domain;
+#[cfg(test)]
+mod flows;
+#[cfg(test)]
+mod grids;
+#[cfg(test)]
+mod keys;
+#[cfg(test)]
+mod large;
 #[cfg(test)]
 mod net;
 #[cfg(test)]
 mod rows;
+#[cfg(test)]
+mod settings;
+#[cfg(test)]
+mod shared;

@@ -1,3 +1,4 @@
+-- Laws, which are proved: nobody need believe them.
 -- The greatest and the least of a list of fractions are what they are called, and lie in the spans of the greatest and
 -- the least ends.
 use Rattle.std.proofs.Common.{◌≡◌, suc, ℤ, pos, ◌<ℤ◌, List, [], ◌∷◌, map, ◌⊎◌, inl, inr, ⊎_elim, refl, sym, ◌∙◌, arith}

@@ -1,3 +1,4 @@
+-- Laws, which are proved: nobody need believe them.
 -- What lies in the spans lies, once combined, in the combined span.
 use Rattle.std.proofs.Common.{◌≡◌, ℤ, pos, negsuc, ◌+ℤ◌, ◌-ℤ◌, ◌*ℤ◌, neg_ℤ, ◌≤ℤ◌, ◌<ℤ◌, List, [], ◌∷◌, Bool, true, false, cond, int_le, ◌⊎◌, inl, inr, ⊎_elim, refl, sym, subst, subst₂, arith}
 use Rattle.std.specs.Int.{int_max, int_min}

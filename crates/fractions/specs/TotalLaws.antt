@@ -1,3 +1,4 @@
+-- Laws, which are proved: nobody need believe them.
 -- The laws of sums of fractions over lists.
 use Rattle.std.proofs.Common.{ℤ, pos, ◌<ℤ◌, List, [], ◌∷◌, Bool, true, false, cond, not, refl}
 use Rattle.std.specs.List.{All, filter}

@@ -1,4 +1,4 @@
--- Words of private contracts: marks that are added to others, and nodes that they leave stranded.
+-- Words of private contracts, which nobody need believe: marks that are added to others, and nodes that they leave stranded.
 use Rattle.std.specs.Prelude.{◌≡◌, ℕ, ◌<◌, Bool, false, not, ◌&&◌, ◌||◌, List, length, slice_index_or, Option, position}
 use Rattle.std.specs.List.{enumerate_from}
 use Rattle.fb_types.specs.declared.grid.Node.{Node}

@@ -1,4 +1,4 @@
--- Words of private contracts: the parts of a state, once the classes of its nodes are numbered.
+-- Words of private contracts, which nobody need believe: the parts of a state, once the classes of its nodes are numbered.
 use Rattle.std.specs.Prelude.{◌≡◌, ℕ, ◌<◌, Bool, true, false, List, length, map}
 use Rattle.fb_types.specs.declared.grid.Grid.{Grid}
 use Rattle.grid_state.specs.declared.links.Link.{Link}

@@ -1,3 +1,4 @@
+-- Laws, which are proved: nobody need believe them.
 -- A grid, a slack node and an outage have one state, and one first stranded node.
 use Rattle.std.proofs.Common.{◌≡◌, ℕ, zero, suc, ◌<◌, ◌≤◌, Bool, true, false, List, [], length, get_or, map, Some, None, inl, inr, arith, refl, sym, ap, ap₂, subst, ◌∙◌}
 use Rattle.std.specs.List.{enumerate_from}

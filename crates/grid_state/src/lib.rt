@@ -13,6 +13,3 @@ pub use build::state;
 pub use split::slack_of;
 pub use state_fault::StateFault;
 pub use types::{Edge, State};
-
-#[cfg(test)]
-mod tests;

@@ -1,4 +1,4 @@
--- Words of private contracts: totals by code, gathered one by one.
+-- Words of private contracts, which nobody need believe: totals by code, gathered one by one.
 use Rattle.std.specs.Prelude.{ℕ, ℤ, ◌+ℤ◌, List, [], ◌∷◌, map, if◌then◌else◌, string_bytes, All}
 use Rattle.whole_laws.specs.Sums.{IsWithin}
 use Rattle.std.specs.Str.{bytes_eq}

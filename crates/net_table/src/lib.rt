@@ -6,8 +6,6 @@ ghost use Rattle.csv_rows.specs.Tables.{table_text};
 ghost use Rattle.net_table.specs.NetTexts.{net_text, rows_of, note_rows};
 ghost use Rattle.net_table.specs.Totals.{totals_in};
 
-#[cfg(test)]
-mod tests;
 mod totals;
 
 use csv_rows::put_row;

@@ -49,6 +49,3 @@ pub fn shift(step: i64, angle: i64, tap: i32, kind: Regulation) -> Result<i64, P
     }
     regulated(voltage(step, tap), angle, kind)
 }
-
-#[cfg(test)]
-mod tests;

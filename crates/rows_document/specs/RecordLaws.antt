@@ -1,3 +1,4 @@
+-- Laws, which are proved: nobody need believe them.
 -- A line is the line of one record.
 use Rattle.std.proofs.Common.{◌≡◌, ℕ, ◌*◌, ◌^◌, ℤ, List, [], ◌∷◌, map, refl, ap, lit<, arith}
 use Rattle.std.specs.List.{All}

@@ -1,3 +1,4 @@
+-- Laws, which are proved: nobody need believe them.
 -- Laws of the sums of whole numbers.
 use Rattle.std.proofs.Common.{◌≡◌, ℕ, zero, suc, ◌+◌, ◌-◌, ◌*◌, ◌<◌, ◌≤◌, inl, inr, ℤ, pos, negsuc, neg_ℤ, ◌+ℤ◌, ◌-ℤ◌, ◌*ℤ◌, List, [], ◌∷◌, length, take, get_or, refl, sym, subst, ap, ◌∙◌, arith, add-one, mul-le-mul}
 use Rattle.std.specs.Prelude.{◌≤ℤ◌}

@@ -1,3 +1,4 @@
+-- Laws, which are proved: nobody need believe them.
 -- Laws of the sums of naturals.
 use Rattle.std.proofs.Common.{◌≡◌, ℕ, zero, suc, ◌+◌, ◌*◌, ◌<◌, ◌≤◌, inl, inr, arith, refl, sym, ap₂, subst}
 use Rattle.std.proofs.lemmas.Bool.{cases_eq}

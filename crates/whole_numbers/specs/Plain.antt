@@ -1,4 +1,4 @@
--- A word of a private contract: what `parse` takes beyond the one text of a number is a sign `+`, `-0` and leading zeros.
+-- A word of a private contract, which nobody need believe: what `parse` takes beyond the one text of a number is a sign `+`, `-0` and leading zeros.
 use Rattle.std.specs.Prelude.{ℕ, ◌==◌, Bool, true, false, not, if◌then◌else◌, List, [], ◌∷◌, length}
 
 abbrev pub begins_with_zero : List ℕ → Bool

@@ -1,3 +1,4 @@
+-- Laws, which are proved: nobody need believe them.
 -- Different numbers have different texts.
 use Rattle.std.proofs.Common.{◌≡◌, ℕ, suc, ◌^◌, ◌<◌, ℤ, pos, negsuc, List, ◌∷◌, drop, sym, ap, ◌∙◌, subst, arith, FitsSigned}
 use Rattle.std.specs.Fmt.{decimal, signed_decimal}
