@@ -8,4 +8,5 @@ pub mod Rows
 pub mod Points
 pub mod Secure
 pub mod Capacity
+pub mod Gaps
 pub mod ShorterForms

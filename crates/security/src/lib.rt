@@ -12,6 +12,7 @@
 //! 8. `Points`: the flow of a row at a list of net positions, by nodal injections.
 //! 9. `Secure`: when all rows are safe.
 //! 10. `Capacity`: what a row, and what a domain, says of secure net positions.
+//! 11. `Gaps`: how far the two sides of a row can be apart, from the grid alone.
 //!
 //! Two laws tell that shorter forms, which proofs use, are the same.
 #![tactic(auto)]
