@@ -1,2 +1,2 @@
-pub mod RowLaws
-pub mod NoCites
+pub mod StateLaws
+pub mod Lists

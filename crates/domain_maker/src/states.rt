@@ -1,13 +1,11 @@
 //! The proofs of the grid states.
 
-ghost use Rattle.std.specs.Prelude.{All, IfOk};
-ghost use Rattle.row_security.specs.Choices.{HasChoices};
+ghost use Rattle.std.specs.Prelude.{IfOk};
 ghost use Rattle.fb_certificate.specs.Valid.{AreProofs};
 ghost use Rattle.fb_certificate.specs.Whole.{IsWhole};
 
 use fb_certificate::{Inputs, StateProof};
 use fb_types::Items;
-use row_security::choices;
 use state_proofs::{Groundwork, prove_after};
 use std::alloc::{AllocError, Global};
 
@@ -37,13 +35,4 @@ pub fn prove_states(alloc: Global, inputs: &Inputs) -> Result<Items<StateProof>,
         proofs.add(proof)?;
     }
     Ok(proofs)
-}
-
-/// In each grid state exact angles can be chosen. It computes nothing.
-pub fn choices_exist(inputs: &Inputs)
-    ensures { All (λ s. HasChoices s inputs.now.grid) inputs.now.states }
-{
-    for state in inputs.states.as_slice() {
-        choices(state, &inputs.grid);
-    }
 }

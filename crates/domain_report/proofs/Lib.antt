@@ -1,3 +1,3 @@
 pub mod Cites
 pub mod Parts
-pub mod RowRecords
+pub mod RunRecords

@@ -1,13 +1,13 @@
 -- Words of private contracts, which nobody need believe.
-use Rattle.std.specs.Prelude.{ℕ, ◌+◌, ℤ, ◌-ℤ◌, Bool, true, false, Option, List, [], ◌∷◌, map, codes, drop}
+use Rattle.std.specs.Prelude.{◌≡◌, ℕ, ◌<◌, ◌-ℤ◌, List, [], ◌∷◌, map, codes}
 use Rattle.std.specs.Fmt.{signed_decimal}
-use Rattle.std.specs.List.{enumerate_from, zip}
-use Rattle.fb_types.specs.declared.crac.Contingency.{Contingency}
-use Rattle.fb_types.specs.declared.crac.Element.{Element}
+use Rattle.place_tables.specs.Places.{first_places}
 use Rattle.cnec_rows.specs.declared.types.RowProof.{RowProof}
-use Rattle.fb_certificate.specs.CracRows.{CracRow}
 use Rattle.fb_certificate.specs.declared.types.Certificate.{Certificate}
-use Rattle.domain_report.specs.DomainTexts.{citation_text, class_word, record_of}
+use Rattle.fb_certificate.specs.declared.types.Cite.{Cite}
+use Rattle.domain_report.specs.DomainTexts.{citation_text, class_word}
+use Rattle.domain_report.specs.declared.cite_index.CiteIndex.{CiteIndex}
+use Rattle.domain_report.specs.declared.cite_index.Cites.{Cites}
 use Rattle.domain_report.specs.declared.standing.Standing.{Standing}
 use Rattle.domain_report.specs.declared.standing.Standing.TheVariants as st
 
@@ -27,12 +27,20 @@ abbrev pub sides_of : List ℕ → List ℕ → RowProof → List (List ℕ)
 sides_of inner outer row =
     class_word row.class ∷ inner ∷ outer ∷ signed_decimal row.r_in ∷ signed_decimal row.r_out ∷ signed_decimal (row.r_out -ℤ row.r_in) ∷ []
 
--- the records of rows that have so many before them
-abbrev pub records_behind : List Contingency → Certificate → ℕ → List CracRow → List (List (List ℕ))
-records_behind contingencies certificate before rows =
-    map (record_of contingencies certificate) (zip (enumerate_from (before + 1) rows) (drop before certificate.rows))
+-- ---- Cites by number
 
--- the limit of an element in a direction
-abbrev pub limit_of : Element → Bool → Option ℤ
-limit_of element false = element.direct
-limit_of element true = element.opposite
+-- the cites, and the first place of each number below a count
+pub record IsCiteIndex (count : ℕ) (cites : List Cite) (index : CiteIndex) : Type 0 where
+  pub same : index.cites.now ≡ cites
+  pub places : index.places.items ≡ first_places count (map (λ cite. cite.row) cites)
+
+-- an index over a count above the number
+pub record IsIndexFor (number : ℕ) (index : CiteIndex) : Type 0 where
+  pub count : ℕ
+  pub above : number < count
+  pub places : index.places.items ≡ first_places count (map (λ cite. cite.row) index.cites.now)
+
+-- the cites of both lists of a certificate
+pub record AreCitesOf (count : ℕ) (certificate : Certificate) (cites : Cites) : Type 0 where
+  pub inner : IsCiteIndex count certificate.inner cites.inner
+  pub outer : IsCiteIndex count certificate.outer cites.outer

@@ -1,31 +1,38 @@
 //! The fields of the record of a row.
 
-ghost use Rattle.std.specs.Prelude.{◌≡◌, ◌++◌, ◌∷◌, ◌-ℤ◌, [], IfOk, OnOk};
+ghost use Rattle.std.specs.Prelude.{◌≡◌, ◌++◌, ◌∷◌, ◌-ℤ◌, [], ℕ, IfOk, OnOk};
 ghost use Rattle.domain_report.specs.DomainTexts.{class_word, contingency_id, direction_word, labels, row_fields};
-ghost use Rattle.domain_report.specs.Standings.{sides_of, standing_word, standing_citation};
+ghost use Rattle.domain_report.specs.Standings.{AreCitesOf, IsIndexFor, sides_of, standing_word, standing_citation};
+ghost use Rattle.fb_certificate.specs.RunRows.{is_opposite};
+ghost use Rattle.fb_certificate.specs.declared.types.Certificate.{Certificate};
 
+use crate::cite_index::Cites;
 use crate::fields::{put_text, put_texts, put_whole, put_wholes};
 use crate::standing::{Standing, citation, is_inner, is_outer, standing_of, word};
 use cnec_selection::Class;
-use fb_certificate::{Certificate, RowProof};
+use fb_certificate::{Direction, RowProof};
 use fb_types::{Contingency, Element, Items, Text};
 use std::alloc::{AllocError, Global};
 
-/// The fields of the record of the row with this number, of an element in a direction, from its numbers.
+/// The fields of the record of the row with this number, of an element in a direction, from its numbers. The cites are those of
+/// a certificate whose rows have numbers below a count.
 pub(crate) fn row_fields(
     alloc: Global,
     contingencies: &[Contingency],
-    certificate: &Certificate,
-    number: u64,
+    cites: &Cites,
+    number: u32,
     element: &Element,
-    opposite: bool,
+    direction: Direction,
     row: &RowProof,
 ) -> Result<Items<Text>, AllocError>
-    ensures { IfOk result (λ fields. fields ≡ row_fields contingencies.now certificate.now number element.now opposite row.now) }
+    requires inner { IsIndexFor number cites.now.inner }
+    requires outer { IsIndexFor number cites.now.outer }
+    ensures { (certificate : Certificate) → (count : ℕ) → AreCitesOf count certificate cites.now → IfOk result (λ fields. fields ≡ row_fields contingencies.now certificate number element.now (is_opposite direction) row.now) }
 {
-    let inner = standing_of(is_inner(row.class), certificate.inner.as_slice(), number);
-    let outer = standing_of(is_outer(row.class), certificate.outer.as_slice(), number);
+    let inner = standing_of(is_inner(row.class), &cites.inner, number);
+    let outer = standing_of(is_outer(row.class), &cites.outer, number);
     let mut fields = Items::new(alloc);
+    let opposite = direction.is_opposite();
     put_labels(alloc, &mut fields, contingencies, number, element, opposite)?;
     put_sides(alloc, &mut fields, inner, outer, row)?;
     put_wholes(alloc, &mut fields, row.a.as_slice())?;
@@ -39,7 +46,7 @@ fn put_labels(
     alloc: Global,
     fields: &mut Items<Text>,
     contingencies: &[Contingency],
-    number: u64,
+    number: u32,
     element: &Element,
     opposite: bool,
 ) -> Result<(), AllocError>

@@ -1,13 +1,12 @@
 //! How a row stands in the inner and in the outer list.
 
 ghost use Rattle.std.specs.Prelude.{◌≡◌, ◌++◌, ◌∷◌, [], IfOk, OnOk, string_bytes};
-ghost use Rattle.std.specs.Option.{option_copied};
 ghost use Rattle.fb_certificate.specs.Lists.{inner_list, outer_list};
-ghost use Rattle.domain_report.specs.DomainTexts.{cite_of, citation, citation_text, fate_word, multiplier_text};
-ghost use Rattle.domain_report.specs.Standings.{standing_word, standing_citation};
+ghost use Rattle.domain_report.specs.DomainTexts.{citation, citation_text, fate_word, multiplier_text};
+ghost use Rattle.domain_report.specs.Standings.{IsIndexFor, standing_word, standing_citation};
 
+use crate::cite_index::CiteIndex;
 use cnec_selection::Class;
-use fb_certificate::Cite;
 use fb_types::{Mult, Multipliers};
 use std::alloc::{AllocError, Global};
 
@@ -43,22 +42,16 @@ pub(crate) fn is_outer(class: Class) -> bool
     }
 }
 
-/// The first cite that names the row with this number.
-fn cite_of(cites: &[Cite], number: u64) -> Option<&Cite>
-    ensures { option_copied result ≡ cite_of cites.now number }
-{
-    cites.iter().find(|cite| u64::from(cite.row) == number)
-}
-
 /// How the row with this number stands in the list with these cites, of which it is or not.
-pub(crate) fn standing_of(is_listed: bool, cites: &[Cite], number: u64) -> Standing<'_>
-    ensures word { standing_word result ≡ fate_word is_listed cites.now number }
-    ensures citation { standing_citation result ≡ citation is_listed cites.now number }
+pub(crate) fn standing_of<'a>(is_listed: bool, cites: &CiteIndex<'a>, number: u32) -> Standing<'a>
+    requires { IsIndexFor number cites.now }
+    ensures word { standing_word result ≡ fate_word is_listed cites.now.cites.now number }
+    ensures citation { standing_citation result ≡ citation is_listed cites.now.cites.now number }
 {
     if !is_listed {
         return Standing::Absent;
     }
-    match cite_of(cites, number) {
+    match cites.cite_of(number) {
         None => Standing::Kept,
         Some(cite) => Standing::Removed(&cite.by),
     }

@@ -1,5 +1,5 @@
-pub mod Theorem
-pub mod NumberLaws
-pub mod RowLaws
-pub mod TermLaws
 pub mod WholeLaws
+pub mod RunLaws
+pub mod IndexLaws
+pub mod NumberLaws
+pub mod Theorem

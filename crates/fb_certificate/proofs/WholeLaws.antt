@@ -1,11 +1,11 @@
 -- What follows for each row, state and zone where the inputs of a domain are whole.
-use Rattle.std.proofs.Common.{◌≡◌, ℕ, zero, suc, ◌+◌, ◌<◌, ◌≤◌, ◌^◌, Bool, true, false, cond, ◌||◌, List, [], ◌∷◌, length, map, get_or, All, Option, Some, None, ℤ, pos, ◌≤ℤ◌, refl, sym, ap, subst, ◌∙◌, inl, inr, arith}
+use Rattle.std.proofs.Common.{◌≡◌, ℕ, zero, suc, ◌+◌, ◌<◌, ◌≤◌, ◌^◌, Bool, true, false, cond, ◌||◌, List, [], ◌∷◌, ◌++◌, length, map, take, get_or, All, Option, Some, None, ℤ, pos, ◌≤ℤ◌, refl, sym, ap, subst, ◌∙◌, inl, inr, arith}
 use Rattle.std.specs.Prelude.{◌==◌, ◌⊎◌, IfSome, slice_get, unwrap_or, nat_abs}
 use Rattle.std.specs.List.{AllZip, filter, find, list_any, position_from, range_with_len}
 use Rattle.std.specs.Option.{option_map_or}
 use Rattle.std.proofs.lemmas.Bool.{eq-eqb, cases_eq, or_left, or_right}
 use Rattle.std.proofs.lemmas.Int.{ints}
-use Rattle.std.proofs.lemmas.List.{length-map}
+use Rattle.std.proofs.lemmas.List.{length-map, take_more}
 use Rattle.std.proofs.lemmas.List.Elements.{All-head, All-tail, All-cons, All-nil, All-weaker, All-get_or}
 use Rattle.std.proofs.lemmas.List.Folds.{list_any_at}
 use Rattle.std.proofs.lemmas.Option.{slice_get_within, get_or_from_slice_get, same_Some}
@@ -33,7 +33,7 @@ use Rattle.zonal_factors.specs.FactorSpans.{IsBlock, IsKey}
 use Rattle.reference_flows.specs.WithoutExchanges.{sizes_of}
 use Rattle.cnec_rows.specs.RowNumbers.{AreTerms, AreRowZones}
 use Rattle.fb_certificate.specs.CracRows.{CracRow, names, outages_of, out_by_state, state_number, is_for}
-use Rattle.fb_certificate.specs.ElementRows.{IsRowIn}
+use Rattle.fb_certificate.specs.RunRows.{IsCracRow}
 use Rattle.fb_certificate.specs.Situations.{stated}
 use Rattle.fb_certificate.specs.Whole.{IsElement, IsWhole, row_zones}
 use Rattle.fb_certificate.specs.declared.types.Inputs.{Inputs}
@@ -51,6 +51,20 @@ zip_get R [] ys i d e h l = absurd (omega arith)
 zip_get R (x ∷ xs) [] i d e h l = absurd h
 zip_get R (x ∷ xs) (y ∷ ys) zero d e h l = h.0
 zip_get R (x ∷ xs) (y ∷ ys) (suc i) d e h l = zip_get R xs ys i d e h.1 (omega arith)
+
+pub zip_push : {X Y : Type 0} (R : X → Y → Type 0) (xs : List X) (ys : List Y) (x : X) (y : Y) → AllZip R xs ys → R x y → AllZip R (xs ++ x ∷ []) (ys ++ y ∷ [])
+zip_push R [] [] x y h r = (r, tt)
+zip_push R [] (b ∷ ys) x y h r = absurd h
+zip_push R (a ∷ xs) [] x y h r = absurd h
+zip_push R (a ∷ xs) (b ∷ ys) x y h r = (h.0, zip_push R xs ys x y h.1 r)
+
+-- one pair more
+pub zip_more : {X Y : Type 0} (R : X → Y → Type 0) (xs : List X) (k : ℕ) (x : X) (before after : List Y) (y : Y) → k < length xs → x ≡ get_or xs k x → AllZip R (take k xs) before → R x y → after ≡ before ++ y ∷ []
+    → AllZip R (take (k + 1) xs) after
+zip_more {X} {Y} R xs k x before after y l read so_far here pushed =
+    subst (λ (ys : List Y). AllZip R (take (k + 1) xs) ys) (sym pushed)
+    (subst (λ (zs : List X). AllZip R zs (before ++ y ∷ [])) (sym (take_more xs k x l ∙ ap (λ (z : X). take k xs ++ z ∷ []) (sym read)))
+    (zip_push R (take k xs) before x y so_far here))
 
 -- ---- keys
 
@@ -268,17 +282,17 @@ direction_fits : (branches contingencies : ℕ) (element : Element) (is_opposite
 direction_fits branches contingencies element true limit h e = limit_fits element.opposite limit h.opposite e
 direction_fits branches contingencies element false limit h e = limit_fits element.direct limit h.direct e
 
-pub stated_fit : (inputs : Inputs) → IsWhole inputs → (at : ℕ) (is_opposite : Bool) (row : CracRow) → IsRowIn inputs.crac.elements at is_opposite row → AreTerms (stated inputs row)
-stated_fit inputs whole at is_opposite row h =
-    let element = element_fits inputs whole at row.element h.same_element in
+pub stated_fit : (inputs : Inputs) → IsWhole inputs → (row : CracRow) → IsCracRow inputs.crac.elements row → AreTerms (stated inputs row)
+stated_fit inputs whole row h =
+    let element = element_fits inputs whole row.place row.element h.same_element in
     record {
-      limit = direction_fits (length inputs.grid.branches) (length inputs.crac.contingencies) row.element is_opposite row.limit element h.limited;
+      limit = direction_fits (length inputs.grid.branches) (length inputs.crac.contingencies) row.element row.opposite row.limit element h.limited;
       margin = element.margin;
       cva = amount_or (λ r. r.cva) (find (is_for row) inputs.reductions)
           (found_all (λ r. (pos 0 ≤ℤ r.cva) × (r.cva ≤ℤ pos (10 ^ 11))) (is_for row) inputs.reductions
-          (All-weaker (IsReduction inputs.crac.elements) (λ r. (pos 0 ≤ℤ r.cva) × (r.cva ≤ℤ pos (10 ^ 11))) (λ r i. i.cva) inputs.reductions whole.reductions));
+          (All-weaker (IsReduction inputs.crac.elements) (λ r. (pos 0 ≤ℤ r.cva) × (r.cva ≤ℤ pos (10 ^ 11))) (λ r i. i.cva) inputs.reductions whole.reductions.each));
       iva = amount_or (λ r. r.iva) (find (is_for row) inputs.reductions)
           (found_all (λ r. (pos 0 ≤ℤ r.iva) × (r.iva ≤ℤ pos (10 ^ 11))) (is_for row) inputs.reductions
-          (All-weaker (IsReduction inputs.crac.elements) (λ r. (pos 0 ≤ℤ r.iva) × (r.iva ≤ℤ pos (10 ^ 11))) (λ r i. i.iva) inputs.reductions whole.reductions));
+          (All-weaker (IsReduction inputs.crac.elements) (λ r. (pos 0 ≤ℤ r.iva) × (r.iva ≤ℤ pos (10 ^ 11))) (λ r i. i.iva) inputs.reductions whole.reductions.each));
       ramr = whole.settings.ramr;
     }

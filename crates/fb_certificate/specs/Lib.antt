@@ -4,4 +4,6 @@ pub mod Situations
 pub mod Lists
 pub mod Valid
 pub mod Capacity
-pub mod ElementRows
+pub mod Thin
+pub mod RunRows
+pub mod RowIndices

@@ -10,7 +10,7 @@ use Rattle.grid_state.specs.Split.{slack_node_of, first_stranded_node}
 use Rattle.grid_state.specs.States.{IsStateOf}
 use Rattle.grid_laplacian.specs.Ranges.{IsInRange}
 use Rattle.run_settings.specs.Laws.{AreSettings, core_bounds}
-use Rattle.run_settings.specs.ReductionLaws.{IsReduction}
+use Rattle.run_settings.specs.ReductionLaws.{AreReductionsOf}
 use Rattle.run_settings.specs.Views.{said}
 use Rattle.run_settings.specs.declared.model.Settings.{Settings}
 use Rattle.glsk_keys.specs.Laws.{AreKeys}
@@ -45,7 +45,7 @@ pub record IsWhole (inputs : Inputs) : Type 0 where
   pub crac : IsCracOver (length inputs.grid.branches) inputs.crac
   pub settings : AreSettings inputs.grid.nodes (said inputs.settings)
   pub keys : AreKeys inputs.grid.nodes inputs.settings.zones inputs.keys
-  pub reductions : All (IsReduction inputs.crac.elements) inputs.reductions
+  pub reductions : AreReductionsOf inputs.crac.elements inputs.reductions
   pub outages : inputs.outages ≡ outages_of inputs.crac
   pub slack : ℕ
   pub slack_node : slack_node_of inputs.grid.nodes inputs.settings.slack ≡ Some slack

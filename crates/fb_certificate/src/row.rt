@@ -1,26 +1,24 @@
-//! The numbers of a row.
+//! The numbers of rows.
 
-ghost use Rattle.std.specs.Prelude.{◌≡◌, ◌≤◌, length, Some, true, slice_get, IfOk};
-ghost use Rattle.run_settings.specs.Reductions.{is_limited};
+ghost use Rattle.std.specs.Prelude.{◌≡◌, ◌≤◌, length, Some, IfOk};
+ghost use Rattle.std.specs.List.{AllZip, Contains};
 ghost use Rattle.fb_certificate.specs.Capacity.{HoldRow, IsRight};
 ghost use Rattle.fb_certificate.specs.CracRows.{CracRow, crac_rows};
-ghost use Rattle.fb_certificate.specs.ElementRows.{IsRowIn};
 ghost use Rattle.fb_certificate.specs.Lists.{numbered};
-ghost use Rattle.fb_certificate.specs.Valid.{AreProofs, AreNumbersOf};
+ghost use Rattle.fb_certificate.specs.RunRows.{run_row, run_rows};
+ghost use Rattle.fb_certificate.specs.Valid.{AreProofs, AreNumbersOf, AreRowsOf};
 ghost use Rattle.fb_certificate.specs.Whole.{IsWhole, row_zones};
 
-use crate::places::directed_of;
-use crate::terms::{state_of, terms_of};
-use crate::types::Inputs;
+use crate::run::run_rows;
+use crate::types::{Inputs, RunRow};
 use crate::zones::row_zones;
 use cnec_rows::{RowProof, RowSpans, RowZones, row_numbers};
 use fb_types::Items;
 use state_proofs::StateProof;
 use std::alloc::{AllocError, Global};
 
-/// The numbers of the row of an element in a direction, and the row of the domain, from the proofs of the states: one for each
-/// state of the inputs. The element goes by its place in the CRAC's list, from 0, and has a limit in the direction; the zones are
-/// those that rows see.
+/// The numbers of a row of the run, and the row of the domain, from the proofs of the states: one for each state of the
+/// inputs. The zones are those that rows see.
 ///
 /// Each span holds the exact number, the class is right, and the two right sides bracket the exact flow of the row.
 pub fn row_of(
@@ -28,19 +26,17 @@ pub fn row_of(
     inputs: &Inputs,
     states: &Items<StateProof>,
     zones: &RowZones,
-    element: u32,
-    opposite: bool,
+    row: &RunRow,
 ) -> Result<(RowSpans, RowProof), AllocError>
     requires whole { IsWhole inputs.now }
     requires proofs { AreProofs inputs.now states.now }
     requires zones { zones.now ≡ row_zones inputs.now.settings inputs.now.keys }
-    requires limited { is_limited opposite (slice_get inputs.now.crac.elements element) ≡ true }
-    ensures numbers { IfOk result (λ found. (c : CracRow) → IsRowIn inputs.now.crac.elements element opposite c → AreNumbersOf inputs.now states.now c found.0 found.1) }
-    ensures holds { IfOk result (λ found. (c : CracRow) → IsRowIn inputs.now.crac.elements element opposite c → HoldRow inputs.now c found.0) }
-    ensures right { IfOk result (λ found. (c : CracRow) → IsRowIn inputs.now.crac.elements element opposite c → IsRight inputs.now c found.1) }
+    requires listed { Contains (run_rows inputs.now) row.now }
+    ensures numbers { IfOk result (λ found. (c : CracRow) → run_row inputs.now c ≡ row.now → AreNumbersOf inputs.now states.now c found.0 found.1) }
+    ensures holds { IfOk result (λ found. (c : CracRow) → run_row inputs.now c ≡ row.now → HoldRow inputs.now c found.0) }
+    ensures right { IfOk result (λ found. (c : CracRow) → run_row inputs.now c ≡ row.now → IsRight inputs.now c found.1) }
 {
-    let terms = terms_of(inputs, element, opposite);
-    let number = state_of(inputs, element) as usize;
+    let number = row.state as usize;
     let state = &inputs.states.as_slice()[number];
     let proof = &states.as_slice()[number];
     row_numbers(
@@ -49,7 +45,7 @@ pub fn row_of(
         &inputs.grid,
         &inputs.keys.columns,
         zones,
-        &terms,
+        &row.terms,
         proof,
     )
 }
@@ -72,14 +68,30 @@ pub fn row_at(
     ensures holds { IfOk result (λ found. (c : CracRow) → numbered (crac_rows inputs.now.crac.elements) row ≡ Some c → HoldRow inputs.now c found.0) }
     ensures right { IfOk result (λ found. (c : CracRow) → numbered (crac_rows inputs.now.crac.elements) row ≡ Some c → IsRight inputs.now c found.1) }
 {
-    let directed = directed_of(inputs.crac.elements.as_slice(), row);
+    let rows = run_rows(alloc, inputs)?;
     let zones = row_zones(alloc, &inputs.settings, &inputs.keys)?;
-    row_of(
-        alloc,
-        inputs,
-        states,
-        &zones,
-        directed.element,
-        directed.opposite,
-    )
+    row_of(alloc, inputs, states, &zones, &rows[row as usize - 1])
+}
+
+/// The rows of the domain, in the order of the run, from the proofs of the states: one for each state of the inputs.
+///
+/// Each has its numbers, its class is right, and its two right sides bracket its exact flow.
+pub fn make_rows(
+    alloc: Global,
+    inputs: &Inputs,
+    states: &Items<StateProof>,
+) -> Result<Items<RowProof>, AllocError>
+    requires whole { IsWhole inputs.now }
+    requires proofs { AreProofs inputs.now states.now }
+    ensures numbers { IfOk result (λ rows. AreRowsOf inputs.now states.now rows) }
+    ensures right { IfOk result (λ rows. AllZip (IsRight inputs.now) (crac_rows inputs.now.crac.elements) rows) }
+{
+    let zones = row_zones(alloc, &inputs.settings, &inputs.keys)?;
+    let rows = run_rows(alloc, inputs)?;
+    let mut made = Items::new(alloc);
+    for row in rows.as_slice() {
+        let (_, numbers) = row_of(alloc, inputs, states, &zones, row)?;
+        made.add(numbers)?;
+    }
+    Ok(made)
 }

@@ -1,6 +1,9 @@
-//! What a domain is computed from, and its certificate.
+//! What a domain is computed from, its rows, and its certificate.
 
-use cnec_rows::RowProof;
+ghost use Rattle.std.specs.Prelude.{◌≡◌};
+ghost use Rattle.fb_certificate.specs.RunRows.{is_opposite};
+
+use cnec_rows::{RowProof, RowTerms};
 use fb_types::{Crac, Grid, Items, Multipliers};
 use glsk_keys::Keys;
 use grid_state::State;
@@ -20,6 +23,36 @@ pub struct Inputs {
     pub states: Items<State>,
     /// The contingency of each state after the base state, by its place in the CRAC's list, from 0.
     pub outages: Items<u32>,
+}
+
+/// The direction in which a row counts the flow of its element.
+#[derive(Clone, Copy, Debug, PartialEq, Eq)]
+pub enum Direction {
+    Direct,
+    Opposite,
+}
+
+impl Direction {
+    pub fn is_opposite(self) -> bool
+        ensures { result ≡ is_opposite self }
+    {
+        match self {
+            Direction::Direct => false,
+            Direction::Opposite => true,
+        }
+    }
+}
+
+/// A row of a run: an element in a direction in which it has a limit.
+#[derive(Clone, Copy, Debug)]
+pub struct RunRow {
+    /// The element, by its place in the CRAC's list, from 0.
+    pub element: u32,
+    pub direction: Direction,
+    /// The grid state that the row is monitored in: 0 for the base state.
+    pub state: u32,
+    /// What is stated of the row: its branch, limit, margin and reductions.
+    pub terms: RowTerms,
 }
 
 /// A row that is removed from a list, by its number from 1, and the multipliers that prove it from rows that are kept.

@@ -179,8 +179,8 @@ domain_put words shelf out work h put = record {
   inputs = h.0;
   said = h.1;
   certificate = h.2.certificate;
-  valid = h.2.valid;
-  capacity = h.2.capacity;
+  sound = h.2.sound;
+  thin = h.2.thin;
   put = subst (Took out) h.2.text put;
 }
 

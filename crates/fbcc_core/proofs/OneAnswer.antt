@@ -192,11 +192,11 @@ computes_once i j = step_agrees JudgeSame _ _ _ _ (λ v w s t. s.verdict ∙ sym
 
 -- ---- Grid states
 
-memory_told : (grid : Grid) (e : InputsError) → LacksMemory e → IsMemory (fault_of grid e)
-memory_told grid refusal.NoSlack m = absurd m
-memory_told grid (refusal.SplitGrid state node) m = absurd m
-memory_told grid (refusal.RangeExceeded state) m = absurd m
-memory_told grid (refusal.Memory e) m = (e, refl)
+memory_told : (e : InputsError) → LacksMemory e → IsMemory (fault_of e)
+memory_told refusal.NoSlack m = absurd m
+memory_told (refusal.SplitGrid state node) m = absurd m
+memory_told (refusal.RangeExceeded state) m = absurd m
+memory_told (refusal.Memory e) m = (e, refl)
 
 module _ (grid : Grid) (crac : Crac) (s t : Settings) (e : SaySame s t) (keys : Keys) where
   slack_same : s.slack ≡ t.slack
@@ -204,19 +204,19 @@ module _ (grid : Grid) (crac : Crac) (s t : Settings) (e : SaySame s t) (keys : 
 
   -- where there are inputs, only want of memory is a refusal
   whole_memory : (named : Option ℕ) (settings : Settings) (reductions : List Reduction) (inputs : Inputs) (f : Fault) → settings.slack ≡ named → AreInputs grid crac settings keys reductions inputs
-      → (x : InputsError) → IsRefused grid crac named keys.columns x → f ≡ fault_of grid x → IsMemory f
+      → (x : InputsError) → IsRefused grid crac named keys.columns x → f ≡ fault_of x → IsMemory f
   whole_memory named settings reductions inputs f slack are x refused is =
       let here : IsRefused inputs.grid inputs.crac inputs.settings.slack inputs.keys.columns x =
       subst (λ (g : Grid). IsRefused g inputs.crac inputs.settings.slack inputs.keys.columns x) (sym are.grid_is)
       (subst (λ (c : Crac). IsRefused grid c inputs.settings.slack inputs.keys.columns x) (sym are.crac_is)
       (subst (λ (o : Option ℕ). IsRefused grid crac o inputs.keys.columns x) (sym (ap (λ (v : Settings). v.slack) are.settings_are ∙ slack))
       (subst (λ (k : Keys). IsRefused grid crac named k.columns x) (sym are.keys_are) refused))) in
-      subst IsMemory (sym is) (memory_told grid x (refused_not_whole inputs are.whole x here))
+      subst IsMemory (sym is) (memory_told x (refused_not_whole inputs are.whole x here))
 
-  told_once : (x y : InputsError) → (x ≡ y) ⊎ (LacksMemory x ⊎ LacksMemory y) → (f g : Fault) → f ≡ fault_of grid x → g ≡ fault_of grid y → (f ≡ g) ⊎ (IsMemory f ⊎ IsMemory g)
-  told_once x y (inl same) f g p q = inl (p ∙ ap (fault_of grid) same ∙ sym q)
-  told_once x y (inr (inl m)) f g p q = inr (inl (subst IsMemory (sym p) (memory_told grid x m)))
-  told_once x y (inr (inr m)) f g p q = inr (inr (subst IsMemory (sym q) (memory_told grid y m)))
+  told_once : (x y : InputsError) → (x ≡ y) ⊎ (LacksMemory x ⊎ LacksMemory y) → (f g : Fault) → f ≡ fault_of x → g ≡ fault_of y → (f ≡ g) ⊎ (IsMemory f ⊎ IsMemory g)
+  told_once x y (inl same) f g p q = inl (p ∙ ap fault_of same ∙ sym q)
+  told_once x y (inr (inl m)) f g p q = inr (inl (subst IsMemory (sym p) (memory_told x m)))
+  told_once x y (inr (inr m)) f g p q = inr (inr (subst IsMemory (sym q) (memory_told y m)))
 
   puts_once : (q r : List Reduction) → Agrees Any (puts_together grid crac s keys q) (puts_together grid crac t keys r)
   puts_once q r = step_agrees Any _ _ _ _

@@ -1,7 +1,5 @@
 -- What each command does, step by step.
 use Rattle.std.specs.Prelude.{◌≡◌, ◌⊎◌, ℕ, ◌+◌, ℤ, List, [], length, Some, None}
-use Rattle.std.specs.Option.{option_map_or}
-use Rattle.std.specs.Prelude.{slice_get}
 use Rattle.fb_types.specs.Domain.{Follows as FollowsBy, IsPoint, Meets, MeetsCited}
 use Rattle.fb_types.specs.declared.crac.Crac.{Crac}
 use Rattle.fb_types.specs.declared.grid.Grid.{Grid}
@@ -10,8 +8,8 @@ use Rattle.run_settings.specs.declared.reduction.Reduction.{Reduction}
 use Rattle.glsk_keys.specs.declared.model.Keys.{Keys}
 use Rattle.rows_document.specs.declared.reader.RowsDocument.{RowsDocument}
 use Rattle.net_table.specs.NetTexts.{net_text}
-use Rattle.fb_certificate.specs.Capacity.{IsCapacity}
-use Rattle.fb_certificate.specs.Valid.{IsValid}
+use Rattle.fb_certificate.specs.Thin.{IsThinDomain}
+use Rattle.valid_domains.specs.Sound.{IsSoundDomain}
 use Rattle.fb_certificate.specs.Whole.{IsWhole}
 use Rattle.fb_certificate.specs.declared.types.Inputs.{Inputs}
 use Rattle.fb_certificate.specs.declared.types.Certificate.{Certificate}
@@ -88,22 +86,18 @@ pub record AreInputs (grid : Grid) (crac : Crac) (settings : Settings) (keys : K
   pub keys_are : inputs.keys ≡ keys
   pub reductions_are : inputs.reductions ≡ reductions
 
--- the code of the node at a place
-abbrev pub code_at : Grid → ℕ → List ℕ
-code_at grid node = option_map_or (λ n. n.code) (slice_get grid.nodes node) []
-
 -- the fault that tells why there are no inputs
-abbrev pub fault_of : Grid → InputsError → Fault
-fault_of grid refusal.NoSlack = NoSlack
-fault_of grid (refusal.SplitGrid state node) = SplitGrid state (code_at grid node)
-fault_of grid (refusal.RangeExceeded state) = RangeExceeded state
-fault_of grid (refusal.Memory e) = Memory e
+abbrev pub fault_of : InputsError → Fault
+fault_of refusal.NoSlack = NoSlack
+fault_of (refusal.SplitGrid state node) = SplitGrid state node
+fault_of (refusal.RangeExceeded state) = RangeExceeded state
+fault_of (refusal.Memory e) = Memory e
 
 -- the grid states of the documents, or why there are none: slack, then split over all states, then range over all states
 abbrev pub puts_together : Grid → Crac → Settings → Keys → List Reduction → Step Inputs
 puts_together grid crac settings keys reductions =
     step (AreInputs grid crac settings keys reductions)
-    (λ fault. (e : InputsError) × IsRefused grid crac settings.slack keys.columns e × (fault ≡ fault_of grid e))
+    (λ fault. (e : InputsError) × IsRefused grid crac settings.slack keys.columns e × (fault ≡ fault_of e))
 
 -- the documents, one after another, and the states
 abbrev pub domain_inputs : List (List ℕ) → ShelfSeen → Step Inputs
@@ -115,12 +109,11 @@ domain_inputs words shelf =
     after (reductions_read words shelf crac) (λ reductions.
     puts_together grid crac settings keys reductions)))))
 
--- the text is that of a certificate that is valid, has no removed row, and has the capacity theorem
+-- the text is that of a sound certificate, which keeps no row that follows from the box or from one other
 pub record IsDomain (inputs : Inputs) (work : Work) : Type 0 where
   pub certificate : Certificate
-  pub valid : IsValid inputs certificate
-  pub capacity : IsCapacity inputs certificate
-  pub all_kept : (certificate.inner ≡ []) × (certificate.outer ≡ [])
+  pub sound : IsSoundDomain inputs certificate
+  pub thin : IsThinDomain inputs certificate
   pub text : work.text ≡ domain_text inputs certificate
   pub verdict : work.verdict ≡ None
 

@@ -1,7 +1,7 @@
 -- What is promised of a domain that is printed.
 use Rattle.std.specs.Prelude.{◌≡◌, ℕ, List, Option, None, Ok}
-use Rattle.fb_certificate.specs.Capacity.{IsCapacity}
-use Rattle.fb_certificate.specs.Valid.{IsValid}
+use Rattle.fb_certificate.specs.Thin.{IsThinDomain}
+use Rattle.valid_domains.specs.Sound.{IsSoundDomain}
 use Rattle.fb_certificate.specs.declared.types.Inputs.{Inputs}
 use Rattle.fb_certificate.specs.declared.types.Certificate.{Certificate}
 use Rattle.domain_report.specs.DomainTexts.{domain_text}
@@ -12,13 +12,14 @@ use Rattle.fbcc_core.specs.Words.{Asks}
 use Rattle.fbcc_core.specs.declared.answer.Fault.{Fault}
 use Rattle.fbcc_core.specs.declared.request.Command.TheVariants as command
 
--- what was put is the table of a valid certificate that has the capacity theorem, for the inputs that the documents say
+-- What was put is the table of a sound certificate, for the inputs that the documents say: it is valid, has the capacity theorem, and
+-- its gaps are small. It keeps no row that follows from the box or from one other.
 pub record IsDomainPut (words : List (List ℕ)) (shelf : ShelfSeen) (out : SinkSeen) : Type 0 where
   pub inputs : Inputs
   pub said : domain_inputs words shelf (Ok inputs)
   pub certificate : Certificate
-  pub valid : IsValid inputs certificate
-  pub capacity : IsCapacity inputs certificate
+  pub sound : IsSoundDomain inputs certificate
+  pub thin : IsThinDomain inputs certificate
   pub put : Took out (domain_text inputs certificate)
 
 -- where the words ask for a domain, and the answer is no fault

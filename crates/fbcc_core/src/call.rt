@@ -46,12 +46,16 @@ pub fn fbcc<H: Shelf, O: Sink, E: Sink>(
     ensures judges { Judges (map string_bytes words.now) (shelf_seen H.tells H.held H.faults H.last_failed shelf.old shelf.new) (sink_seen O.tells O.taken O.faults out.old out.new) result.fault }
     ensures completes { Completes (map string_bytes words.now) (shelf_seen H.tells H.held H.faults H.last_failed shelf.old shelf.new) (sink_seen O.tells O.taken O.faults out.old out.new) result.fault }
 
-    // The capacity theorem: where the words ask for a domain and the answer is no fault, what was put is the table of a valid
-    // certificate, for the inputs that the documents say. Every balanced list of net positions in the box that meets its kept inner
-    // rows is secure, and every secure one meets its outer rows: `BracketSecure` (security/specs/Capacity.antt). What secure is:
-    // `IsSecure` (security/specs/Secure.antt). Each row, kept or not, brackets its own exact flow, its gap lying between its two
-    // sides: `IsBracketed` (security/specs/Capacity.antt). Rows that are removed follow from kept ones: `AreCites`
-    // (fb_certificate/specs/Lists.antt), which is a part of a valid certificate.
+    // The promise of a domain: where the words ask for one and the answer is no fault, what was put is the table of a certificate for
+    // the inputs that the documents say, which is sound: it is valid, and
+    // - every balanced list of net positions in the box that meets its kept inner rows is secure, and every secure one meets its
+    //   outer rows: `BracketSecure` (security/specs/Capacity.antt); what secure is: `IsSecure` (security/specs/Secure.antt);
+    // - each row, kept or not, brackets its own exact flow, its gap being the difference of its two sides: `IsBracketed`
+    //   (security/specs/Capacity.antt); the gap is small, by a bound from the inputs alone: `HasSmallGaps`
+    //   (valid_domains/specs/Gaps.antt);
+    // - rows that are removed follow from kept ones and the box by their multipliers: `AreCites` (fb_certificate/specs/Lists.antt),
+    //   a part of a valid certificate;
+    // - no row is kept that follows from the box or from one other kept row: `IsThinDomain` (fb_certificate/specs/Thin.antt).
     ensures capacity { PrintsCapacity (map string_bytes words.now) (shelf_seen H.tells H.held H.faults H.last_failed shelf.old shelf.new) (sink_seen O.tells O.taken O.faults out.old out.new) result.fault }
 
     // What was put to the error output.

@@ -1,11 +1,11 @@
 //! The documents of a domain, each fetched and then understood.
 
-ghost use Rattle.std.specs.Prelude.{◌≡◌, ◌≢◌, ◌≤◌, All, IfOk, IfErr, None, Ok, Err, length, map, string_bytes};
+ghost use Rattle.std.specs.Prelude.{◌≡◌, ◌≢◌, ◌≤◌, IfOk, IfErr, None, Ok, Err, length, map, string_bytes};
 ghost use Rattle.fb_certificate.specs.Whole.{IsCracOver};
 ghost use Rattle.fb_json.specs.Spots.{doc_tree};
 ghost use Rattle.glsk_keys.specs.Laws.{AreKeys};
 ghost use Rattle.run_settings.specs.Laws.{AreSettings};
-ghost use Rattle.run_settings.specs.ReductionLaws.{IsReduction};
+ghost use Rattle.run_settings.specs.ReductionLaws.{AreReductionsOf};
 ghost use Rattle.run_settings.specs.Views.{said};
 ghost use Rattle.fbcc_core.specs.Reading.{grid_read, tree_read, crac_read, settings_read, keys_read, reductions_read};
 ghost use Rattle.fbcc_core.specs.Seen.{shelf_seen};
@@ -122,7 +122,7 @@ pub fn read_reductions_document<H: Shelf>(
     ensures still_held { H.held shelf.new ≡ H.held shelf.old }
     ensures never_falls { H.faults shelf.old ≤ H.faults shelf.new }
     ensures step { reductions_read (map string_bytes words.now) (shelf_seen H.tells H.held H.faults H.last_failed shelf.old shelf.new) crac.now result }
-    ensures laws { IfOk result (λ reductions. All (IsReduction crac.now.elements) reductions) }
+    ensures laws { IfOk result (AreReductionsOf crac.now.elements) }
 {
     if name_for(words, Document::Reductions).is_none() {
         return Ok(Items::new(alloc));

@@ -1,14 +1,13 @@
-//! The command `domain`: the rows of a domain, every row kept.
+//! The command `domain`: the rows of a domain.
 
-ghost use Rattle.std.specs.Prelude.{◌≡◌, ◌⊎◌, [], All, IfOk, length, map, slice_get, string_bytes, unwrap_or};
+ghost use Rattle.std.specs.Prelude.{◌≡◌, IfOk, length, map, string_bytes};
 ghost use Rattle.fb_certificate.specs.Whole.{IsCracOver, IsWhole};
 ghost use Rattle.glsk_keys.specs.Laws.{AreKeys};
 ghost use Rattle.run_settings.specs.Laws.{AreSettings};
-ghost use Rattle.run_settings.specs.ReductionLaws.{IsReduction};
+ghost use Rattle.run_settings.specs.ReductionLaws.{AreReductionsOf};
 ghost use Rattle.run_settings.specs.Views.{said};
 ghost use Rattle.fbcc_core.specs.Commands.{computes, domain_inputs, fault_of, puts_together, domain_work as domain_steps};
 ghost use Rattle.fbcc_core.specs.Seen.{shelf_seen};
-ghost use Rattle.fbcc_core.specs.Steps.{IsMemory};
 ghost use Rattle.fbcc_core.specs.Words.{Asks};
 
 use crate::answer::Fault;
@@ -22,11 +21,12 @@ use domain_maker::make_certificate;
 use domain_report::write_domain;
 use fb_base::Shelf;
 use fb_certificate::Inputs;
-use fb_types::{Crac, Grid, Items, Node, Text};
+use fb_types::{Crac, Grid, Items};
 use glsk_keys::Keys;
 use run_inputs::{InputsError, run_inputs};
 use run_settings::{Reduction, Settings};
-use std::alloc::{AllocError, Global};
+use std::alloc::Global;
+use valid_domains::sound;
 
 /// Reads the documents that the words name, and computes the domain.
 pub fn domain_work<H: Shelf>(alloc: Global, words: &[String], shelf: &mut H) -> Result<Work, Fault>
@@ -63,56 +63,25 @@ fn put_together(
     requires crac { IsCracOver (length grid.branches) crac }
     requires settings { AreSettings grid.nodes (said settings) }
     requires keys { AreKeys grid.nodes settings.zones keys }
-    requires reductions { All (IsReduction crac.elements) reductions }
+    requires reductions { AreReductionsOf crac.elements reductions }
     ensures step { puts_together grid crac settings keys reductions result }
     ensures whole { IfOk result IsWhole }
 {
-    let codes = match codes_of(alloc, grid.nodes.as_slice()) {
-        Ok(codes) => codes,
-        Err(e) => return Err(Fault::Memory(e)),
-    };
     match run_inputs(alloc, grid, crac, settings, keys, reductions) {
         Ok(inputs) => Ok(inputs),
-        Err(error) => Err(refusal(alloc, &codes, error)),
+        Err(error) => Err(fault_of(error)),
     }
 }
 
-/// The codes of the nodes, in their order.
-fn codes_of(alloc: Global, nodes: &[Node]) -> Result<Items<Text>, AllocError>
-    ensures { IfOk result (λ codes. codes ≡ map (λ n. n.code) nodes.now) }
-{
-    let mut codes = Items::new(alloc);
-    for node in nodes {
-        let code = Text::from_text(alloc, node.code.as_text())?;
-        codes.add(code)?;
-    }
-    Ok(codes)
-}
-
-/// The fault that tells why there are no inputs, over a grid whose nodes have these codes.
-fn refusal(alloc: Global, codes: &Items<Text>, error: InputsError) -> Fault
-    ensures { (grid : Grid) → codes.now ≡ map (λ n. n.code) grid.nodes → (result ≡ fault_of grid error) ⊎ IsMemory result }
+/// The fault that tells why there are no inputs.
+fn fault_of(error: InputsError) -> Fault
+    ensures { result ≡ fault_of error }
 {
     match error {
         InputsError::NoSlack => Fault::NoSlack,
-        InputsError::SplitGrid { state, node } => {
-            match Text::from_text(alloc, code_at(codes, node)) {
-                Ok(node) => Fault::SplitGrid { state, node },
-                Err(e) => Fault::Memory(e),
-            }
-        }
+        InputsError::SplitGrid { state, node } => Fault::SplitGrid { state, node },
         InputsError::RangeExceeded { state } => Fault::RangeExceeded { state },
         InputsError::Memory(e) => Fault::Memory(e),
-    }
-}
-
-/// The code at a place, counted from 0. It is empty past the end.
-fn code_at(codes: &Items<Text>, place: u32) -> &str
-    ensures { result.now ≡ unwrap_or (slice_get codes.now place) [] }
-{
-    match codes.get(u64::from(place)) {
-        Some(code) => code.as_text(),
-        None => "",
     }
 }
 
@@ -125,6 +94,7 @@ fn compute(alloc: Global, inputs: &Inputs) -> Result<Work, Fault>
         Ok(certificate) => certificate,
         Err(e) => return Err(Fault::Memory(e)),
     };
+    sound(inputs, &certificate);
     match write_domain(alloc, inputs, &certificate) {
         Ok(text) => Ok(Work {
             text: Items::from_vec(text),

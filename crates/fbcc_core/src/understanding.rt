@@ -6,7 +6,7 @@ ghost use Rattle.fb_json.specs.Spots.{doc_tree};
 ghost use Rattle.fb_types.specs.Domain.{IsHalfOver, AreBounds};
 ghost use Rattle.glsk_keys.specs.Laws.{AreKeys};
 ghost use Rattle.run_settings.specs.Laws.{AreSettings};
-ghost use Rattle.run_settings.specs.ReductionLaws.{IsReduction};
+ghost use Rattle.run_settings.specs.ReductionLaws.{AreReductionsOf};
 ghost use Rattle.run_settings.specs.Views.{said};
 ghost use Rattle.fbcc_core.specs.Reading.{reads_grid, reads_tree, reads_crac, reads_settings, reads_keys, reads_reductions, reads_rows};
 
@@ -84,7 +84,7 @@ pub fn keys_in(alloc: Global, doc: &Doc, grid: &Grid, settings: &Settings) -> Re
 /// The reductions that the bytes spell.
 pub fn reductions_in(alloc: Global, bytes: &[u8], crac: &Crac) -> Result<Items<Reduction>, Fault>
     ensures step { reads_reductions crac.now bytes.now result }
-    ensures laws { IfOk result (λ reductions. All (IsReduction crac.now.elements) reductions) }
+    ensures laws { IfOk result (AreReductionsOf crac.now.elements) }
 {
     match read_reductions(alloc, bytes, crac) {
         Ok(reductions) => Ok(reductions),

@@ -271,20 +271,32 @@ fn cracs_are_refused(rt: HostRuntime) -> Result<(), AllocError> {
     Ok(())
 }
 
+/// What is told of a row in each list, and the multipliers that prove it: a row of 1000 MW or more follows from the
+/// box, by the least multiplier of the balance that serves.
+fn fate_of(limit: i64, least: &'static str) -> (&'static str, &'static str) {
+    if limit >= 1_000_000_000 {
+        ("REMOVED", least)
+    } else {
+        ("KEPT", "")
+    }
+}
+
 /// The records of an element with these limits.
 fn records(alloc: Global, direct: i64, opposite: i64) -> Result<String, AllocError> {
     let mut text = String::from_str(
         alloc,
         "row,element,instant,contingency,direction,class,inner,outer,r_in,r_out,gap,a:BE,a:NL,inner_by,outer_by\n",
     )?;
+    let (fate, by) = fate_of(direct, "-1000000000000000000000");
     write!(
         text,
-        "1,e,preventive,,DIRECT,CERTAIN,KEPT,KEPT,{direct},{direct},0,0,-1000000000000,,\n"
+        "1,e,preventive,,DIRECT,CERTAIN,{fate},{fate},{direct},{direct},0,0,-1000000000000,{by},{by}\n"
     )?;
     if opposite > 0 {
+        let (fate, by) = fate_of(opposite, "0");
         write!(
             text,
-            "2,e,preventive,,OPPOSITE,CERTAIN,KEPT,KEPT,{opposite},{opposite},0,0,1000000000000,,\n"
+            "2,e,preventive,,OPPOSITE,CERTAIN,{fate},{fate},{opposite},{opposite},0,0,1000000000000,{by},{by}\n"
         )?;
     }
     Ok(text)

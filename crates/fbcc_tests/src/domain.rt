@@ -53,6 +53,16 @@ const SHIFTED: &str =
 
 const SECOND_BE: &str = "BBE2AA1  BE2          0 0 380.00    0.00    0.00    0.00\n";
 
+/// The Dutch and the French node hang on a node that two lines join to Belgium.
+const STAR: &str =
+    "##ZXX\nXBENL11  X1           0 0 380.00    0.00    0.00    0.00\n##L\nXBENL11  NNL1AA1  1 0 0.0000 14.440 0.000000   2000\nXBENL11  FFR1AA1  1 0 0.0000 14.440 0.000000   2000\nBBE1AA1  XBENL11  1 0 0.0000 14.440 0.000000   2000\nBBE1AA1  XBENL11  2 0 0.0000 14.440 0.000000   2000\n";
+
+/// A ring of Belgium and two further nodes, of 1, 6 and 2 lines. The Dutch node hangs on the first of these, the French
+/// and the German one on the second. Of what flows to the first 0.4 come over the single line, of what flows to the
+/// second 0.3.
+const RING: &str =
+    "##ZDE\nDDE1AA1  DE1          0 0 380.00    0.00    0.00    0.00\n##ZXX\nXBENL11  X1           0 0 380.00    0.00    0.00    0.00\nXBEFR11  X2           0 0 380.00    0.00    0.00    0.00\n##L\nXBENL11  NNL1AA1  1 0 0.0000 14.440 0.000000   2000\nXBEFR11  FFR1AA1  1 0 0.0000 14.440 0.000000   2000\nXBEFR11  DDE1AA1  1 0 0.0000 14.440 0.000000   2000\nBBE1AA1  XBENL11  1 0 0.0000 14.440 0.000000   2000\nXBENL11  XBEFR11  1 0 0.0000 14.440 0.000000   2000\nXBENL11  XBEFR11  2 0 0.0000 14.440 0.000000   2000\nXBENL11  XBEFR11  3 0 0.0000 14.440 0.000000   2000\nXBENL11  XBEFR11  4 0 0.0000 14.440 0.000000   2000\nXBENL11  XBEFR11  5 0 0.0000 14.440 0.000000   2000\nXBENL11  XBEFR11  6 0 0.0000 14.440 0.000000   2000\nBBE1AA1  XBEFR11  1 0 0.0000 14.440 0.000000   2000\nBBE1AA1  XBEFR11  2 0 0.0000 14.440 0.000000   2000\n";
+
 // ---- Elements
 
 const BASE: [&str; 3] = [
@@ -63,7 +73,7 @@ const BASE: [&str; 3] = [
 
 const ON_SECOND: [&str; 3] = [
     "\"contingencies\":[],\"flowCnecs\":[",
-    "{\"id\":\"c1\",\"networkElementId\":\"BBE1AA1  NNL1AA1  2\",\"instant\":\"preventive\",\"optimized\":true,\"thresholds\":[{\"unit\":\"megawatt\",\"min\":-500,\"max\":500}]}",
+    "{\"id\":\"c1\",\"networkElementId\":\"BBE1AA1  NNL1AA1  2\",\"instant\":\"preventive\",\"optimized\":true,\"thresholds\":[{\"unit\":\"megawatt\",\"min\":-40,\"max\":40}]}",
     "]}",
 ];
 
@@ -75,13 +85,13 @@ const ON_BOTH: [&str; 3] = [
 
 const ON_TIE: [&str; 3] = [
     "\"contingencies\":[],\"flowCnecs\":[",
-    "{\"id\":\"c1\",\"networkElementId\":\"BBE1AA1  XBENL11  1 + XBENL11  NNL1AA1  1\",\"instant\":\"preventive\",\"optimized\":true,\"thresholds\":[{\"unit\":\"megawatt\",\"max\":500}]}",
+    "{\"id\":\"c1\",\"networkElementId\":\"BBE1AA1  XBENL11  1 + XBENL11  NNL1AA1  1\",\"instant\":\"preventive\",\"optimized\":true,\"thresholds\":[{\"unit\":\"megawatt\",\"max\":400}]}",
     "]}",
 ];
 
 const ON_TURNED_TIE: [&str; 3] = [
     "\"contingencies\":[],\"flowCnecs\":[",
-    "{\"id\":\"c1\",\"networkElementId\":\"XBENL11  NNL1AA1  1 + BBE1AA1  XBENL11  1\",\"instant\":\"preventive\",\"optimized\":true,\"thresholds\":[{\"unit\":\"megawatt\",\"max\":500}]}",
+    "{\"id\":\"c1\",\"networkElementId\":\"XBENL11  NNL1AA1  1 + BBE1AA1  XBENL11  1\",\"instant\":\"preventive\",\"optimized\":true,\"thresholds\":[{\"unit\":\"megawatt\",\"max\":400}]}",
     "]}",
 ];
 
@@ -100,13 +110,31 @@ const AFTER_FRANCE: [&str; 3] = [
 
 const AFTER_COUPLER: [&str; 3] = [
     "\"contingencies\":[{\"id\":\"co1\",\"networkElementsIds\":[\"BBE1AA1  BBE1AB1  1\"]}],\"flowCnecs\":[",
-    "{\"id\":\"c1\",\"networkElementId\":\"BBE1AA1  NNL1AA1  1\",\"instant\":\"preventive\",\"optimized\":true,\"thresholds\":[{\"unit\":\"megawatt\",\"max\":500}]},{\"id\":\"c2\",\"networkElementId\":\"BBE1AA1  NNL1AA1  1\",\"instant\":\"outage\",\"contingencyId\":\"co1\",\"optimized\":true,\"thresholds\":[{\"unit\":\"megawatt\",\"max\":500}]}",
+    "{\"id\":\"c1\",\"networkElementId\":\"BBE1AA1  NNL1AA1  1\",\"instant\":\"preventive\",\"optimized\":true,\"thresholds\":[{\"unit\":\"megawatt\",\"max\":400}]},{\"id\":\"c2\",\"networkElementId\":\"BBE1AA1  NNL1AA1  1\",\"instant\":\"outage\",\"contingencyId\":\"co1\",\"optimized\":true,\"thresholds\":[{\"unit\":\"megawatt\",\"max\":400}]}",
     "]}",
 ];
 
 const AFTER_CHAIN: [&str; 3] = [
     "\"contingencies\":[{\"id\":\"co1\",\"networkElementsIds\":[\"NNL1AA1  FFR1AA1  1\"]}],\"flowCnecs\":[",
     "{\"id\":\"c1\",\"networkElementId\":\"BBE1AA1  NNL1AA1  1\",\"instant\":\"outage\",\"contingencyId\":\"co1\",\"optimized\":true,\"thresholds\":[{\"unit\":\"megawatt\",\"max\":500}]}",
+    "]}",
+];
+
+const THREE_ON_ONE: [&str; 3] = [
+    "\"contingencies\":[],\"flowCnecs\":[",
+    "{\"id\":\"c1\",\"networkElementId\":\"BBE1AA1  NNL1AA1  1\",\"instant\":\"preventive\",\"optimized\":true,\"thresholds\":[{\"unit\":\"megawatt\",\"min\":-500,\"max\":500}]},{\"id\":\"c2\",\"networkElementId\":\"BBE1AA1  NNL1AA1  1\",\"instant\":\"preventive\",\"optimized\":true,\"thresholds\":[{\"unit\":\"megawatt\",\"min\":-500,\"max\":500}]},{\"id\":\"c3\",\"networkElementId\":\"BBE1AA1  NNL1AA1  1\",\"instant\":\"preventive\",\"optimized\":true,\"thresholds\":[{\"unit\":\"megawatt\",\"min\":-600,\"max\":600}]}",
+    "]}",
+];
+
+const ON_STAR: [&str; 3] = [
+    "\"contingencies\":[],\"flowCnecs\":[",
+    "{\"id\":\"c1\",\"networkElementId\":\"XBENL11  NNL1AA1  1\",\"instant\":\"preventive\",\"optimized\":true,\"thresholds\":[{\"unit\":\"megawatt\",\"max\":100}]},{\"id\":\"c2\",\"networkElementId\":\"XBENL11  FFR1AA1  1\",\"instant\":\"preventive\",\"optimized\":true,\"thresholds\":[{\"unit\":\"megawatt\",\"max\":100}]},{\"id\":\"c3\",\"networkElementId\":\"BBE1AA1  XBENL11  1\",\"instant\":\"preventive\",\"optimized\":true,\"thresholds\":[{\"unit\":\"megawatt\",\"max\":100}]}",
+    "]}",
+];
+
+const ON_RING: [&str; 3] = [
+    "\"contingencies\":[],\"flowCnecs\":[",
+    "{\"id\":\"c1\",\"networkElementId\":\"XBENL11  NNL1AA1  1\",\"instant\":\"preventive\",\"optimized\":true,\"thresholds\":[{\"unit\":\"megawatt\",\"max\":100}]},{\"id\":\"c2\",\"networkElementId\":\"XBEFR11  FFR1AA1  1\",\"instant\":\"preventive\",\"optimized\":true,\"thresholds\":[{\"unit\":\"megawatt\",\"max\":100}]},{\"id\":\"c3\",\"networkElementId\":\"XBEFR11  DDE1AA1  1\",\"instant\":\"preventive\",\"optimized\":true,\"thresholds\":[{\"unit\":\"megawatt\",\"max\":100}]},{\"id\":\"c4\",\"networkElementId\":\"BBE1AA1  XBENL11  1\",\"instant\":\"preventive\",\"optimized\":true,\"thresholds\":[{\"unit\":\"megawatt\",\"max\":100}]}",
     "]}",
 ];
 
@@ -120,6 +148,9 @@ const TWO: &str =
 
 const THREE: &str =
     "{\"moment\":\"2024-05-01T10:30:00Z\",\"zones\":[{\"id\":\"BE\",\"min\":-1000,\"max\":1000},{\"id\":\"NL\",\"min\":-1000,\"max\":1000},{\"id\":\"FR\",\"min\":-1000,\"max\":1000}]}";
+
+const FOUR: &str =
+    "{\"moment\":\"2024-05-01T10:30:00Z\",\"zones\":[{\"id\":\"BE\",\"min\":-1000,\"max\":1000},{\"id\":\"NL\",\"min\":-1000,\"max\":1000},{\"id\":\"FR\",\"min\":-1000,\"max\":1000},{\"id\":\"DE\",\"min\":-1000,\"max\":1000}]}";
 
 const ONE: &str =
     "{\"moment\":\"2024-05-01T10:30:00Z\",\"thresholdPermille\":0,\"zones\":[{\"id\":\"BE\",\"min\":-1000,\"max\":1000}]}";
@@ -136,6 +167,9 @@ const KEYS_OF_TWO: &str =
 const KEYS_OF_THREE: &str =
     "{\"series\":[{\"zone\":\"BE\",\"from\":\"2024-05-01T00:00:00Z\",\"to\":\"2024-05-02T00:00:00Z\",\"blocks\":[{\"business\":\"GSK\",\"share\":100,\"kind\":\"country\"}]},{\"zone\":\"NL\",\"from\":\"2024-05-01T00:00:00Z\",\"to\":\"2024-05-02T00:00:00Z\",\"blocks\":[{\"business\":\"GSK\",\"share\":100,\"kind\":\"country\"}]},{\"zone\":\"FR\",\"from\":\"2024-05-01T00:00:00Z\",\"to\":\"2024-05-02T00:00:00Z\",\"blocks\":[{\"business\":\"GSK\",\"share\":100,\"kind\":\"country\"}]}]}";
 
+const KEYS_OF_FOUR: &str =
+    "{\"series\":[{\"zone\":\"BE\",\"from\":\"2024-05-01T00:00:00Z\",\"to\":\"2024-05-02T00:00:00Z\",\"blocks\":[{\"business\":\"GSK\",\"share\":100,\"kind\":\"country\"}]},{\"zone\":\"NL\",\"from\":\"2024-05-01T00:00:00Z\",\"to\":\"2024-05-02T00:00:00Z\",\"blocks\":[{\"business\":\"GSK\",\"share\":100,\"kind\":\"country\"}]},{\"zone\":\"FR\",\"from\":\"2024-05-01T00:00:00Z\",\"to\":\"2024-05-02T00:00:00Z\",\"blocks\":[{\"business\":\"GSK\",\"share\":100,\"kind\":\"country\"}]},{\"zone\":\"DE\",\"from\":\"2024-05-01T00:00:00Z\",\"to\":\"2024-05-02T00:00:00Z\",\"blocks\":[{\"business\":\"GSK\",\"share\":100,\"kind\":\"country\"}]}]}";
+
 // ---- Tables
 
 const HEADER_OF_ONE: &str =
@@ -146,6 +180,9 @@ const HEADER_OF_TWO: &str =
 
 const HEADER_OF_THREE: &str =
     "row,element,instant,contingency,direction,class,inner,outer,r_in,r_out,gap,a:BE,a:NL,a:FR,inner_by,outer_by\n";
+
+const HEADER_OF_FOUR: &str =
+    "row,element,instant,contingency,direction,class,inner,outer,r_in,r_out,gap,a:BE,a:NL,a:FR,a:DE,inner_by,outer_by\n";
 
 /// A case, and the records of its table. Where the angles of a state may be exact or not, either table is right.
 struct Case {
@@ -159,7 +196,7 @@ struct Case {
     tables: [&'static str; 2],
 }
 
-const CASES: [Case; 13] = [
+const CASES: [Case; 16] = [
     Case {
         name: "two nodes",
         nodes: [BE, NL, ""],
@@ -221,8 +258,8 @@ const CASES: [Case; 13] = [
         keys: KEYS_OF_TWO,
         header: HEADER_OF_TWO,
         tables: [
-            "1,c1,preventive,,DIRECT,CERTAIN,KEPT,KEPT,500000000,500000000,0,0,-500000000000,,\n2,c2,outage,co1,DIRECT,CERTAIN,KEPT,KEPT,500000000,500000000,0,-500000000000,-1000000000000,,\n",
-            "1,c1,preventive,,DIRECT,CERTAIN,KEPT,KEPT,500000000,500000000,0,0,-500000000000,,\n2,c2,outage,co1,DIRECT,CERTAIN,KEPT,KEPT,499999999,500000001,2,-500000000000,-1000000000000,,\n",
+            "1,c1,preventive,,DIRECT,CERTAIN,KEPT,KEPT,400000000,400000000,0,0,-500000000000,,\n2,c2,outage,co1,DIRECT,CERTAIN,REMOVED,REMOVED,400000000,400000000,0,-500000000000,-1000000000000,-500000000000000000000 1:1000000000,-500000000000000000000 1:1000000000\n",
+            "1,c1,preventive,,DIRECT,CERTAIN,REMOVED,KEPT,400000000,400000000,0,0,-500000000000,500000000000000000000 2:1000000000,\n2,c2,outage,co1,DIRECT,CERTAIN,KEPT,REMOVED,399999999,400000001,2,-500000000000,-1000000000000,,-500000000000000000000 1:1000000000\n",
         ],
     },
     Case {
@@ -234,8 +271,8 @@ const CASES: [Case; 13] = [
         keys: KEYS_OF_TWO,
         header: HEADER_OF_TWO,
         tables: [
-            "1,c1,preventive,,DIRECT,CERTAIN,KEPT,KEPT,500000000,500000000,0,0,-500000000000,,\n",
-            "1,c1,preventive,,DIRECT,CERTAIN,KEPT,KEPT,499999999,500000001,2,0,-500000000000,,\n",
+            "1,c1,preventive,,DIRECT,CERTAIN,KEPT,KEPT,400000000,400000000,0,0,-500000000000,,\n",
+            "1,c1,preventive,,DIRECT,CERTAIN,KEPT,KEPT,399999999,400000001,2,0,-500000000000,,\n",
         ],
     },
     Case {
@@ -247,8 +284,8 @@ const CASES: [Case; 13] = [
         keys: KEYS_OF_TWO,
         header: HEADER_OF_TWO,
         tables: [
-            "1,c1,preventive,,DIRECT,CERTAIN,KEPT,KEPT,500000000,500000000,0,0,500000000000,,\n",
-            "1,c1,preventive,,DIRECT,CERTAIN,KEPT,KEPT,499999999,500000001,2,0,500000000000,,\n",
+            "1,c1,preventive,,DIRECT,CERTAIN,KEPT,KEPT,400000000,400000000,0,0,500000000000,,\n",
+            "1,c1,preventive,,DIRECT,CERTAIN,KEPT,KEPT,399999999,400000001,2,0,500000000000,,\n",
         ],
     },
     Case {
@@ -286,7 +323,7 @@ const CASES: [Case; 13] = [
         keys: KEYS_OF_TWO,
         header: HEADER_OF_TWO,
         tables: [
-            "1,c1,preventive,,DIRECT,CERTAIN,KEPT,KEPT,500000000,500000000,0,0,-50000000000,,\n2,c1,preventive,,OPPOSITE,CERTAIN,KEPT,KEPT,500000000,500000000,0,0,50000000000,,\n",
+            "1,c1,preventive,,DIRECT,CERTAIN,KEPT,KEPT,40000000,40000000,0,0,-50000000000,,\n2,c1,preventive,,OPPOSITE,CERTAIN,KEPT,KEPT,40000000,40000000,0,0,50000000000,,\n",
             "",
         ],
     },
@@ -299,12 +336,13 @@ const CASES: [Case; 13] = [
         keys: KEYS_OF_TWO,
         header: HEADER_OF_TWO,
         tables: [
-            "1,c1,preventive,,DIRECT,DOUBTFUL,KEPT,-,499999999,500000001,2,0,-50000000000,,\n2,c1,preventive,,OPPOSITE,DOUBTFUL,KEPT,-,499999999,500000001,2,0,50000000000,,\n",
+            "1,c1,preventive,,DIRECT,DOUBTFUL,KEPT,-,39999999,40000001,2,0,-50000000000,,\n2,c1,preventive,,OPPOSITE,DOUBTFUL,KEPT,-,39999999,40000001,2,0,50000000000,,\n",
             "",
         ],
     },
     // The shift drives b·φ/2 = 249791978.615 W round: against the line, and along the transformer. What it leaves of
-    // 500 MW is below the 350 MW that are to remain for trade.
+    // 500 MW is below the 350 MW that are to remain for trade. With one zone the only point is 0, so each row follows
+    // from the box.
     Case {
         name: "a phase shifter",
         nodes: [BE, SECOND_BE, ""],
@@ -314,7 +352,7 @@ const CASES: [Case; 13] = [
         keys: KEYS_OF_ONE,
         header: HEADER_OF_ONE,
         tables: [
-            "1,c1,preventive,,DIRECT,CERTAIN,KEPT,KEPT,749791978,749791979,1,-250000000000,,\n2,c1,preventive,,OPPOSITE,CERTAIN,KEPT,KEPT,350000000,350000000,0,250000000000,,\n3,c2,preventive,,DIRECT,CERTAIN,KEPT,KEPT,350000000,350000000,0,-250000000000,,\n4,c2,preventive,,OPPOSITE,CERTAIN,KEPT,KEPT,749791978,749791979,1,250000000000,,\n",
+            "1,c1,preventive,,DIRECT,CERTAIN,REMOVED,REMOVED,749791978,749791979,1,-250000000000,-250000000000000000000,-250000000000000000000\n2,c1,preventive,,OPPOSITE,CERTAIN,REMOVED,REMOVED,350000000,350000000,0,250000000000,250000000000000000000,250000000000000000000\n3,c2,preventive,,DIRECT,CERTAIN,REMOVED,REMOVED,350000000,350000000,0,-250000000000,-250000000000000000000,-250000000000000000000\n4,c2,preventive,,OPPOSITE,CERTAIN,REMOVED,REMOVED,749791978,749791979,1,250000000000,250000000000000000000,250000000000000000000\n",
             "",
         ],
     },
@@ -329,6 +367,46 @@ const CASES: [Case; 13] = [
         tables: [
             "1,c1,outage,co1,DIRECT,CERTAIN,KEPT,KEPT,500000000,500000000,0,0,-1000000000000,,\n",
             "",
+        ],
+    },
+    Case {
+        name: "three elements on a line",
+        nodes: [BE, NL, ""],
+        lines: LINE,
+        elements: THREE_ON_ONE,
+        settings: TWO,
+        keys: KEYS_OF_TWO,
+        header: HEADER_OF_TWO,
+        tables: [
+            "1,c1,preventive,,DIRECT,CERTAIN,KEPT,KEPT,500000000,500000000,0,0,-1000000000000,,\n2,c1,preventive,,OPPOSITE,CERTAIN,KEPT,KEPT,500000000,500000000,0,0,1000000000000,,\n3,c2,preventive,,DIRECT,CERTAIN,REMOVED,REMOVED,500000000,500000000,0,0,-1000000000000,0 1:1000000000,0 1:1000000000\n4,c2,preventive,,OPPOSITE,CERTAIN,REMOVED,REMOVED,500000000,500000000,0,0,1000000000000,0 2:1000000000,0 2:1000000000\n5,c3,preventive,,DIRECT,CERTAIN,REMOVED,REMOVED,600000000,600000000,0,0,-1000000000000,0 1:1000000000,0 1:1000000000\n6,c3,preventive,,OPPOSITE,CERTAIN,REMOVED,REMOVED,600000000,600000000,0,0,1000000000000,0 2:1000000000,0 2:1000000000\n",
+            "",
+        ],
+    },
+    // Half of what each of the two nodes may take in comes over one of the two lines: 100 MW in all.
+    Case {
+        name: "a row that follows from two",
+        nodes: [BE, NL, FR],
+        lines: STAR,
+        elements: ON_STAR,
+        settings: THREE,
+        keys: KEYS_OF_THREE,
+        header: HEADER_OF_THREE,
+        tables: [
+            "1,c1,preventive,,DIRECT,CERTAIN,KEPT,KEPT,100000000,100000000,0,0,-1000000000000,0,,\n2,c2,preventive,,DIRECT,CERTAIN,KEPT,KEPT,100000000,100000000,0,0,0,-1000000000000,,\n3,c3,preventive,,DIRECT,CERTAIN,REMOVED,REMOVED,100000000,100000000,0,0,-500000000000,-500000000000,0 1:500000000 2:500000000,0 1:500000000 2:500000000\n",
+            "1,c1,preventive,,DIRECT,CERTAIN,KEPT,KEPT,99999999,100000001,2,0,-1000000000000,0,,\n2,c2,preventive,,DIRECT,CERTAIN,KEPT,KEPT,99999999,100000001,2,0,0,-1000000000000,,\n3,c3,preventive,,DIRECT,CERTAIN,REMOVED,REMOVED,99999999,100000001,2,0,-500000000000,-500000000000,0 1:500000000 2:500000000,0 1:500000000 2:500000000\n",
+        ],
+    },
+    Case {
+        name: "a row that follows from three",
+        nodes: [BE, NL, FR],
+        lines: RING,
+        elements: ON_RING,
+        settings: FOUR,
+        keys: KEYS_OF_FOUR,
+        header: HEADER_OF_FOUR,
+        tables: [
+            "1,c1,preventive,,DIRECT,CERTAIN,KEPT,KEPT,100000000,100000000,0,0,-1000000000000,0,0,,\n2,c2,preventive,,DIRECT,CERTAIN,KEPT,KEPT,100000000,100000000,0,0,0,-1000000000000,0,,\n3,c3,preventive,,DIRECT,CERTAIN,KEPT,KEPT,100000000,100000000,0,0,0,0,-1000000000000,,\n4,c4,preventive,,DIRECT,CERTAIN,REMOVED,REMOVED,100000000,100000000,0,0,-400000000000,-300000000000,-300000000000,0 1:400000000 2:300000000 3:300000000,0 1:400000000 2:300000000 3:300000000\n",
+            "1,c1,preventive,,DIRECT,CERTAIN,KEPT,KEPT,99999999,100000001,2,0,-1000000000000,0,0,,\n2,c2,preventive,,DIRECT,CERTAIN,KEPT,KEPT,99999999,100000001,2,0,0,-1000000000000,0,,\n3,c3,preventive,,DIRECT,CERTAIN,KEPT,KEPT,99999999,100000001,2,0,0,0,-1000000000000,,\n4,c4,preventive,,DIRECT,CERTAIN,REMOVED,REMOVED,99999999,100000001,2,0,-400000000000,-300000000000,-300000000000,0 1:400000000 2:300000000 3:300000000,0 1:400000000 2:300000000 3:300000000\n",
         ],
     },
 ];
@@ -569,6 +647,57 @@ fn an_output_fails(rt: HostRuntime) -> Result<(), AllocError> {
     assert_eq!(rt; answer.outcome.status, 15);
     assert_eq!(rt; answer.out.bytes().len(), 100);
     assert_eq!(rt; answer.err.bytes(), b"cannot write\n".as_slice());
+    Ok(())
+}
+
+/// A CRAC with 24 elements on the line between the two nodes.
+fn crac_of_many(alloc: Global) -> Result<String, AllocError> {
+    let mut crac = String::from_str(alloc, HEAD_OF_CRAC)?;
+    crac.push_str("\"contingencies\":[],\"flowCnecs\":[")?;
+    for number in 1..25_u32 {
+        if number > 1 {
+            crac.push_str(",")?;
+        }
+        write!(
+            crac,
+            "{{\"id\":\"c{number}\",\"networkElementId\":\"BBE1AA1  NNL1AA1  1\",\"instant\":\"preventive\",\"optimized\":true,\"thresholds\":[{{\"unit\":\"megawatt\",\"min\":-500,\"max\":500}}]}}"
+        )?;
+    }
+    crac.push_str("]}")?;
+    Ok(crac)
+}
+
+/// A table of more than 4,096 bytes is put in two pieces.
+#[test]
+fn a_later_piece_fails(rt: HostRuntime) -> Result<(), AllocError> {
+    let mut shelf = two_nodes(rt.alloc())?;
+    let crac = crac_of_many(rt.alloc())?;
+    shelf.add("crac.json", crac.as_bytes())?;
+    let whole = call(rt.alloc(), &DOMAIN, &mut shelf)?;
+    assert_eq!(rt; whole.outcome.status, 0);
+    let mut out = MemSink::new(rt.alloc(), 10_000)?;
+    out.fail_at(2, 100)?;
+    let err = MemSink::new(rt.alloc(), 10_000)?;
+    let answer = call_into(rt.alloc(), &DOMAIN, &mut shelf, out, err)?;
+    assert_eq!(rt; answer.outcome.status, 15);
+    assert_eq!(rt; answer.out.bytes().len(), 4_196);
+    assert!(rt; whole.out.bytes().starts_with(answer.out.bytes()));
+    assert_eq!(rt; answer.err.bytes(), b"cannot write\n".as_slice());
+    Ok(())
+}
+
+/// The fetch of one document more than the words name would fail.
+#[test]
+fn no_other_document_is_fetched(rt: HostRuntime) -> Result<(), AllocError> {
+    let calls: [&[&str]; 3] = [&["net", "--grid", "grid.uct"], &DOMAIN, &REDUCED];
+    let one_more: [u64; 3] = [2, 5, 6];
+    for place in 0..3 {
+        let mut shelf = two_nodes(rt.alloc())?;
+        shelf.add("reductions.csv", b"element,direction,cva,iva\n")?;
+        shelf.fail_at(one_more[place])?;
+        let answer = call(rt.alloc(), calls[place], &mut shelf)?;
+        assert_eq!(rt; answer.outcome.status, 0);
+    }
     Ok(())
 }
 

@@ -7,6 +7,7 @@ use std::alloc::{AllocError, Global};
 /// The reactance of a transformer and of a line beside it, the regulation of the transformer in columns 41 to 68, and
 /// the right sides and the gap of the transformer in both directions. At 0.1444 ohm, 10^9 kW/rad, a shift of 10^-12 rad
 /// drives 0.5 W round, and a tenth of that at ten times as much. Of the limit of 500 MW 350 MW are to remain for trade.
+/// With one zone each row follows from the box.
 const SHIFTS: [(&str, &str, &str, &str); 15] = [
     (
         "0.1444",
@@ -134,7 +135,7 @@ fn flows_are_driven(rt: HostRuntime) -> Result<(), AllocError> {
         let mut shelf = shelf_of(rt.alloc(), grid.as_str(), CRAC_OF_ONE, ONE, KEYS_OF_ONE)?;
         let answer = call(rt.alloc(), &DOMAIN, &mut shelf)?;
         let records = format!(in rt.alloc();
-            "\n1,c1,preventive,,DIRECT,CERTAIN,KEPT,KEPT,{direct},-250000000000,,\n2,c1,preventive,,OPPOSITE,CERTAIN,KEPT,KEPT,{opposite},250000000000,,\n"
+            "\n1,c1,preventive,,DIRECT,CERTAIN,REMOVED,REMOVED,{direct},-250000000000,-250000000000000000000,-250000000000000000000\n2,c1,preventive,,OPPOSITE,CERTAIN,REMOVED,REMOVED,{opposite},250000000000,250000000000000000000,250000000000000000000\n"
         )?;
         assert!(rt;
             answer.out.bytes().ends_with(records.as_bytes()),

@@ -10,10 +10,10 @@ const GRID: &str =
     "##N\n##ZBE\nBBE1AA1  BE1          0 0 380.00 .000010    0.00 -.00003\nBBE2AA1  BE2          0 0 380.00 .000005    0.00 .000020\n##ZNL\nNNL1AA1  NL1          0 3 380.00    0.00    0.00 -.00001\n##ZFR\nFFR1AA1  FR1          0 0 380.00 .000003    0.00    0.00\n##L\nBBE1AA1  NNL1AA1  1 0 0.0000 14.440\nBBE2AA1  NNL1AA1  1 0 0.0000 14.440\nFFR1AA1  NNL1AA1  1 0 0.0000 14.440\n";
 
 const CRAC: &str =
-    "{\"type\":\"CRAC\",\"flowCnecs\":[{\"id\":\"c1\",\"networkElementId\":\"BBE1AA1  NNL1AA1  1\",\"instant\":\"preventive\",\"optimized\":true,\"thresholds\":[{\"unit\":\"megawatt\",\"max\":500}]}]}";
+    "{\"type\":\"CRAC\",\"flowCnecs\":[{\"id\":\"c1\",\"networkElementId\":\"BBE1AA1  NNL1AA1  1\",\"instant\":\"preventive\",\"optimized\":true,\"thresholds\":[{\"unit\":\"megawatt\",\"max\":100}]}]}";
 
 const SETTINGS: &str =
-    "{\"moment\":\"2024-05-01T10:30:00Z\",\"zones\":[{\"id\":\"BE\",\"min\":-1,\"max\":1},{\"id\":\"NL\",\"min\":-1,\"max\":1},{\"id\":\"FR\",\"core\":false},{\"id\":\"DE\",\"core\":false}]}";
+    "{\"moment\":\"2024-05-01T10:30:00Z\",\"zones\":[{\"id\":\"BE\",\"min\":-1000,\"max\":1000},{\"id\":\"NL\",\"min\":-1000,\"max\":1000},{\"id\":\"FR\",\"core\":false},{\"id\":\"DE\",\"core\":false}]}";
 
 /// Documents, each check with a fault of the next behind it, and their fault lines without line ends.
 const FAULTS: [(&str, &str); 34] = [

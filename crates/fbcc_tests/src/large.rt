@@ -1,4 +1,5 @@
-//! The command `domain` on grids that sweeps alone would take minutes for: a long chain, and strong lines beside weak ones.
+//! The command `domain` on grids that sweeps alone would take minutes for: a long chain, and strong lines beside weak
+//! ones.
 
 use crate::calls::{DOMAIN, call};
 use fb_base::MemShelf;
@@ -18,7 +19,7 @@ fn crac_of(alloc: Global, branch: &str) -> Result<String, AllocError> {
     )?;
     crac.push_str(branch)?;
     crac.push_str(
-        r#"","instant":"preventive","optimized":true,"reliabilityMargin":0,"thresholds":[{"unit":"megawatt","min":-500,"max":500}]}]}"#,
+        r#"","instant":"preventive","optimized":true,"reliabilityMargin":0,"thresholds":[{"unit":"megawatt","min":-400,"max":400}]}]}"#,
     )?;
     Ok(crac)
 }
@@ -39,7 +40,8 @@ fn code_of(alloc: Global, place: u32) -> Result<String, AllocError> {
     format!(in alloc; "CN{place:04}1 ")
 }
 
-/// A chain of 2,000 nodes, the first thousand of Belgium and the others of the Netherlands, joined by lines of 14.44 ohm.
+/// A chain of 2,000 nodes, the first thousand of Belgium and the others of the Netherlands, joined by lines of 14.44
+/// ohm.
 fn chain(alloc: Global) -> Result<String, AllocError> {
     let mut grid = String::from_str(alloc, "##N\n")?;
     for place in 0..2_000_u32 {
@@ -65,7 +67,8 @@ fn chain(alloc: Global) -> Result<String, AllocError> {
     Ok(grid)
 }
 
-/// The line in the middle carries all that the Netherlands take in and nothing of what Belgium does, as the slack is Belgium's.
+/// The line in the middle carries all that the Netherlands take in and nothing of what Belgium does, as the slack is
+/// Belgium's.
 #[test]
 fn a_long_chain(rt: HostRuntime) -> Result<(), AllocError> {
     let grid = chain(rt.alloc())?;
@@ -73,7 +76,7 @@ fn a_long_chain(rt: HostRuntime) -> Result<(), AllocError> {
     let answer = call(rt.alloc(), &DOMAIN, &mut shelf)?;
     assert_eq!(rt; answer.outcome.status, 0);
     let table =
-        "row,element,instant,contingency,direction,class,inner,outer,r_in,r_out,gap,a:BE,a:NL,inner_by,outer_by\n1,c1,preventive,,DIRECT,CERTAIN,KEPT,KEPT,500000000,500000000,0,0,-1000000000000,,\n2,c1,preventive,,OPPOSITE,CERTAIN,KEPT,KEPT,500000000,500000000,0,0,1000000000000,,\n";
+        "row,element,instant,contingency,direction,class,inner,outer,r_in,r_out,gap,a:BE,a:NL,inner_by,outer_by\n1,c1,preventive,,DIRECT,CERTAIN,KEPT,KEPT,400000000,400000000,0,0,-1000000000000,,\n2,c1,preventive,,OPPOSITE,CERTAIN,KEPT,KEPT,400000000,400000000,0,0,1000000000000,,\n";
     assert!(rt; answer.out.bytes() == table.as_bytes());
     Ok(())
 }

@@ -130,7 +130,8 @@ const FAULTS: [(&str, &str); 28] = [
     ),
 ];
 
-/// Settings that are taken, and the end of the record of the line.
+/// Settings that are taken, and the end of the record of the line. Where the zones can exchange little, its row follows
+/// from the box.
 const TAKEN: [(&str, &str); 3] = [
     (
         "{\"moment\":\"2024-05-01T12:30+02:00[Europe/Brussels]\",\"zones\":[{\"id\":\"BE\",\"min\":-100000,\"max\":100000},{\"id\":\"NL\",\"min\":-1e5,\"max\":100000.0000009}]}",
@@ -138,11 +139,11 @@ const TAKEN: [(&str, &str); 3] = [
     ),
     (
         "{\"moment\":\"2024-05-01T10:30:00Z\",\"thresholdPermille\":1e3,\"slack\":\"NNL1AA1\",\"zones\":[{\"id\":\"BE\",\"min\":-1,\"max\":1},{\"id\":\"NL\",\"min\":-1,\"max\":1}]}",
-        ",CERTAIN,KEPT,KEPT,500000000,500000000,0,1000000000000,0,,\n",
+        ",CERTAIN,REMOVED,REMOVED,500000000,500000000,0,1000000000000,0,0,0\n",
     ),
     (
         "{\"moment\":\"2024-05-01T10:30:00Z\",\"ramrPermille\":1000.0,\"zones\":[{\"id\":\"NL\",\"min\":0,\"max\":0},{\"id\":\"FR\",\"core\":\"false\",\"min\":\"x\"},{\"id\":\"BE\",\"codes\":[\"BE\",\"B1\"],\"min\":0,\"max\":0}]}",
-        ",CERTAIN,KEPT,KEPT,500000000,500000000,0,-1000000000000,0,,\n",
+        ",CERTAIN,REMOVED,REMOVED,500000000,500000000,0,-1000000000000,0,-1000000000000000000000,-1000000000000000000000\n",
     ),
 ];
 

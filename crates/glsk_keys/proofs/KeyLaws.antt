@@ -1,5 +1,5 @@
 -- What holds of keys that were read.
-use Rattle.std.proofs.Common.{◌≡◌, ℕ, zero, suc, ◌+◌, ◌*◌, ◌^◌, ◌<◌, ◌≤◌, ◌==◌, ◌≢◌, Bool, true, false, cond, inl, inr, ◌⊎◌, ℤ, pos, negsuc, ◌+ℤ◌, List, [], ◌∷◌, ◌++◌, length, get_or, map, Option, Some, None, Result, Ok, Err, refl, sym, ap, subst, ◌∙◌, arith}
+use Rattle.std.proofs.Common.{◌≡◌, ℕ, zero, suc, ◌+◌, ◌^◌, ◌<◌, ◌≤◌, ◌==◌, ◌≢◌, Bool, true, false, cond, inl, inr, ℤ, pos, ◌+ℤ◌, List, [], ◌∷◌, ◌++◌, length, get_or, Option, Some, None, Ok, refl, sym, ap, subst, ◌∙◌, arith}
 use Rattle.std.specs.Prelude.{◌≤ℤ◌, ◌&&◌, ◌||◌, All, not, codes, int_lt, int_le, nat_lt, nat_abs, sum_by, ⊤}
 use Rattle.std.specs.Option.{option_to_list}
 use Rattle.std.proofs.lemmas.Int.{ints}
@@ -14,7 +14,7 @@ use Rattle.serde_json.specs.Data.{Data}
 use Rattle.fb_json.specs.Tree.{text_of, decimal_of, length_of}
 use Rattle.json_reading.specs.Place.{in_member}
 use Rattle.json_reading.specs.Reading.{At, fault_here, fault_in, refuse_if, found_or, found_or_missing, required, here, spot, optional_array, required_array}
-use Rattle.json_reading.proofs.Kept.{bind_ok, refuse_if_ok, required_array_keeps, optional_array_keeps}
+use Rattle.json_reading.proofs.Kept.{bind_ok, refuse_if_ok, required_array_keeps, required_array_few, optional_array_keeps}
 use Rattle.fb_types.specs.GridRanges.{exchange_of, AreInjections}
 use Rattle.fb_types.specs.declared.grid.Node.{Node}
 use Rattle.fb_types.specs.declared.keys.Weight.{Weight}
@@ -152,7 +152,11 @@ block_step facts zone before at item e so_far =
 
 record BlocksHold (homes : List (Option ℕ)) (zone : ℕ) (blocks : List Block) : Type 0 where
   all : All (IsBlock homes zone) blocks
+  few : length blocks ≤ 4
   whole : shares_of blocks ≡ pos (10 ^ 8)
+
+at_most_four : (n : ℕ) → nat_lt 4 n ≡ false → n ≤ 4
+at_most_four n e = grind (arith, nat_tests)
 
 blocks_ok : (facts : Facts) (zone : ℕ) (at : At KeyKind) (blocks : List Block) → blocks_of facts zone at ≡ Ok blocks → BlocksHold facts.homes zone blocks
 unfolding blocks_of
@@ -166,8 +170,11 @@ blocks_ok facts zone at blocks e =
     let ends = both (int_le (shares_of read.0) (pos 100000000)) (int_le (pos 100000000) (shares_of read.0)) (not_not (are_whole read.0) (refuse_if_ok (not (are_whole read.0)) (in_member at.place (codes "blocks")) SharesNot100 whole.0 whole.1)) in
     let high = at_most (shares_of read.0) (pos 100000000) ends.0 in
     let low = at_most (pos 100000000) (shares_of read.0) ends.1 in
+    let long : length read.0 ≤ count.0 = required_array_few (block_of facts zone) (codes "blocks") at count.0 read.0 count.1 read.1 in
+    let short : count.0 ≤ 4 = at_most_four count.0 (refuse_if_ok (nat_lt 4 count.0) (in_member at.place (codes "blocks")) TooMany few.0 few.1) in
     subst (BlocksHold facts.homes zone) is (record {
       all = required_array_keeps (All (IsBlock facts.homes zone)) (block_of facts zone) (block_step facts zone) (codes "blocks") at read.0 (All-nil (IsBlock facts.homes zone)) read.1;
+      few = omega (arith, long, short);
       whole = omega (arith, ints, high, low);
     })
 
@@ -189,7 +196,7 @@ matching_step facts zone before at item e so_far =
     let c : Column = record { zone = zone; blocks = blocks.0 } in
     let is : Some c ≡ item = cc in
     let held = blocks_ok facts zone at blocks.0 blocks.1 in
-    let one : SeriesHolds facts.homes c = record { column = record { of_zone = refl; blocks = held.all; whole = inr held.whole }; some = some_blocks blocks.0 held.whole } in
+    let one : SeriesHolds facts.homes c = record { column = record { of_zone = refl; blocks = held.all; few = held.few; whole = inr held.whole }; some = some_blocks blocks.0 held.whole } in
     subst (λ (o : Option Column). All (SeriesHolds facts.homes) (before ++ option_to_list o)) is (All-push (SeriesHolds facts.homes) before c so_far one)
 
 none_more : (homes : List (Option ℕ)) (before : List Column) (item : Option Column) → None ≡ item → All (SeriesHolds homes) before → All (SeriesHolds homes) (before ++ option_to_list item)
@@ -222,19 +229,19 @@ series_step facts before at item e so_far =
 
 -- ---- columns
 default_holds : (facts : Facts) (zone : ℕ) (core : Bool) → AreInjections facts.nodes → IsColumn facts.homes zone (default_column facts zone core)
-default_holds facts zone true h = record { of_zone = refl; blocks = All-nil (IsBlock facts.homes zone); whole = inl refl }
+default_holds facts zone true h = record { of_zone = refl; blocks = All-nil (IsBlock facts.homes zone); few = omega arith; whole = inl refl }
 default_holds facts zone false h = by_test (int_le (total_of (sizes_of facts zone)) (pos 0)) refl
   where
     by_test : (b : Bool) → int_le (total_of (sizes_of facts zone)) (pos 0) ≡ b
         → IsColumn facts.homes zone (record { zone = zone; blocks = cond b [] (block_with (pos 100000000) (sizes_of facts zone) ∷ []) })
-    by_test true e = record { of_zone = refl; blocks = All-nil (IsBlock facts.homes zone); whole = inl refl }
+    by_test true e = record { of_zone = refl; blocks = All-nil (IsBlock facts.homes zone); few = omega arith; whole = inl refl }
     by_test false e =
         let low = above (total_of (sizes_of facts zone)) (pos 0) e in
         let high = sizes_high (members_of zone facts.homes) facts.nodes in
         let block = block_with (pos 100000000) (sizes_of facts zone) in
         let one = block_holds facts.homes zone (pos 100000000) (sizes_of facts zone) (omega (arith, ints)) (members_are facts.homes zone Size facts.nodes) (omega (arith, ints, low)) (omega (arith, ints, high, h.small)) in
         let s = block_share (pos 100000000) (sizes_of facts zone) in
-        record { of_zone = refl; blocks = All-cons (IsBlock facts.homes zone) block [] one (All-nil (IsBlock facts.homes zone)); whole = inr (ap (λ z. z +ℤ pos 0) s) }
+        record { of_zone = refl; blocks = All-cons (IsBlock facts.homes zone) block [] one (All-nil (IsBlock facts.homes zone)); few = omega arith; whole = inr (ap (λ z. z +ℤ pos 0) s) }
 
 defaults_hold : (facts : Facts) (k : ℕ) (zones : List Zone) (j : ℕ) (d : Column) → j < length zones → AreInjections facts.nodes → IsColumn facts.homes (k + j) (get_or (defaults_from facts k zones) j d)
 defaults_hold facts k [] j d l h = absurd (omega arith)
@@ -344,6 +351,7 @@ keys_hold nodes zones moment tree keys small e =
     all_hold ns zs m series h all bare = record {
       columns = length-map (defaults_from (facts_from ns zs m) 0 zs) (column_or series) ∙ length-defaults_from (facts_from ns zs m) 0 zs;
       positions = length-map-range_with_len (position_of (facts_from ns zs m)) 0 (length zs);
+      reference = refl;
       each = λ k d l.
           let defaults = defaults_from (facts_from ns zs m) 0 zs in
           let n = length-defaults_from (facts_from ns zs m) 0 zs in

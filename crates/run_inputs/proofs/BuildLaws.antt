@@ -1,5 +1,5 @@
 -- States one by one: none is split so far, or one is the first that is; and the first that is outside the range rule.
-use Rattle.std.proofs.Common.{◌≡◌, ℕ, ◌+◌, ◌<◌, ◌≤◌, List, [], ◌∷◌, ◌++◌, length, take, get_or, Some, None, All, slice_get, arith, sym, ap, subst, ◌∙◌}
+use Rattle.std.proofs.Common.{◌≡◌, ℕ, ◌+◌, ◌<◌, ◌≤◌, List, [], ◌∷◌, ◌++◌, length, take, get_or, Some, None, All, slice_get, inl, inr, arith, refl, sym, ap, subst, ◌∙◌}
 use Rattle.std.specs.List.{AllZip}
 use Rattle.std.proofs.lemmas.List.{take_more, length-take, get_or-take, take_all}
 use Rattle.std.proofs.lemmas.List.Elements.{All-push, All-more}
@@ -13,9 +13,11 @@ use Rattle.grid_state.specs.States.{IsStateOf}
 use Rattle.grid_state.specs.declared.state_fault.StateFault.{StateFault}
 use Rattle.grid_state.specs.declared.state_fault.StateFault.TheVariants as faults
 use Rattle.grid_laplacian.specs.Ranges.{IsInRange}
-use Rattle.run_inputs.specs.Building.{AreUnsplit, refusal_at, IsSplitAt, IsFirstOutside}
+use Rattle.run_inputs.specs.Building.{AreUnsplit, IsToldAt, IsSplitAt, IsFirstOutside}
 use Rattle.run_inputs.specs.RefusalLaws.{all_at, none_split}
-use Rattle.run_inputs.specs.Refusals.{IsFirstSplit}
+use Rattle.run_inputs.specs.Refusals.{IsFirstSplit, IsMemory}
+use Rattle.run_inputs.specs.declared.fault.InputsError.{InputsError}
+use Rattle.run_inputs.specs.declared.fault.InputsError.TheVariants.{NoSlack, SplitGrid, RangeExceeded, Memory}
 
 taken_at : {A : Type 0} (xs : List A) (i k : ℕ) (x : A) → k < i → slice_get xs k ≡ Some x → slice_get (take i xs) k ≡ Some x
 taken_at xs i k x lt e =
@@ -40,11 +42,19 @@ module _ (grid : Grid) (slack : ℕ) (columns : List Column) where
     before = λ k earlier below e n. none_split grid slack columns (take i out) states so_far.of_grid so_far.unsplit k earlier (taken_at out i k earlier below e) n;
   }
 
+  memory_is : (out : List (List ℕ)) (error : InputsError) → IsMemory error → IsSplitAt grid slack columns out error
+  memory_is out NoSlack m = absurd m
+  memory_is out (SplitGrid state code) m = absurd m
+  memory_is out (RangeExceeded state) m = absurd m
+  memory_is out (Memory e) m = tt
+
   -- a refused state is the first that is split, or memory is wanting
-  pub refusal_is : (out : List (List ℕ)) (i : ℕ) (states : List GridState) (fault : StateFault) → i < length out → AreUnsplit grid slack columns (take i out) states → IsCaused grid slack (get_or out i []) columns fault
-      → IsSplitAt grid slack columns out (refusal_at i fault)
-  refusal_is out i states (faults.SplitGrid node) lt so_far cause = split-first out i states node lt so_far cause
-  refusal_is out i states (faults.Memory e) lt so_far cause = tt
+  pub refusal_is : (out : List (List ℕ)) (i : ℕ) (states : List GridState) (fault : StateFault) (error : InputsError) → i < length out → AreUnsplit grid slack columns (take i out) states
+      → IsCaused grid slack (get_or out i []) columns fault → IsToldAt grid i fault error → IsSplitAt grid slack columns out error
+  refusal_is out i states (faults.SplitGrid node) error lt so_far cause (inl told) =
+      subst (IsSplitAt grid slack columns out) (sym told) (record { node = node; split = split-first out i states node lt so_far cause; code_is = refl })
+  refusal_is out i states (faults.SplitGrid node) error lt so_far cause (inr memory) = memory_is out error memory
+  refusal_is out i states (faults.Memory e) error lt so_far cause told = subst (IsSplitAt grid slack columns out) (sym told) tt
 
 module _ (grid : Grid) (states : List GridState) where
   pub in_range-more : (i : ℕ) (s : GridState) → i < length states → s ≡ get_or states i s → IsInRange grid s → All (IsInRange grid) (take i states) → All (IsInRange grid) (take (i + 1) states)

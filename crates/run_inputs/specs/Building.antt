@@ -1,6 +1,6 @@
 -- Words of private contracts: states while they are made. Nobody need believe them: they are tied to the inputs and their refusals by
 -- the contract of the call.
-use Rattle.std.specs.Prelude.{◌≡◌, ℕ, ◌<◌, List, [], Some, None, All, slice_get, slice_index_or}
+use Rattle.std.specs.Prelude.{◌≡◌, ◌⊎◌, ℕ, ◌<◌, List, [], Some, None, All, slice_get, slice_index_or}
 use Rattle.std.specs.List.{AllZip}
 use Rattle.fb_types.specs.declared.crac.Crac.{Crac}
 use Rattle.fb_types.specs.declared.grid.Grid.{Grid}
@@ -12,7 +12,7 @@ use Rattle.grid_state.specs.declared.state_fault.StateFault.{StateFault}
 use Rattle.grid_state.specs.declared.state_fault.StateFault.TheVariants as faults
 use Rattle.grid_laplacian.specs.Ranges.{IsInRange}
 use Rattle.fb_certificate.specs.CracRows.{out_by_state}
-use Rattle.run_inputs.specs.Refusals.{IsFirstSplit}
+use Rattle.run_inputs.specs.Refusals.{code_at, IsFirstStranded, IsMemory}
 use Rattle.run_inputs.specs.declared.fault.InputsError.{InputsError}
 use Rattle.run_inputs.specs.declared.fault.InputsError.TheVariants.{NoSlack, SplitGrid, RangeExceeded, Memory}
 
@@ -25,15 +25,15 @@ pub record AreUnsplit (grid : Grid) (slack : ℕ) (columns : List Column) (out :
   pub of_grid : AllZip (IsStateOf grid slack) out states
   pub unsplit : All (λ s. first_stranded_node s columns grid.nodes ≡ None) states
 
--- a refused state as a refusal of the run
-abbrev pub refusal_at : ℕ → StateFault → InputsError
-refusal_at number (faults.SplitGrid node) = SplitGrid number node
-refusal_at number (faults.Memory e) = Memory e
+-- the refusal of the run that tells why the state of this number is refused, unless memory ran out
+abbrev pub IsToldAt : Grid → ℕ → StateFault → InputsError → Type 0
+IsToldAt grid number (faults.SplitGrid node) error = (error ≡ SplitGrid number (code_at grid node)) ⊎ IsMemory error
+IsToldAt grid number (faults.Memory e) error = error ≡ Memory e
 
 -- a state is split, or memory is wanting
 abbrev pub IsSplitAt : Grid → ℕ → List Column → List (List ℕ) → InputsError → Type 0
 IsSplitAt grid slack columns out NoSlack = ⊥
-IsSplitAt grid slack columns out (SplitGrid state node) = IsFirstSplit grid slack columns out state node
+IsSplitAt grid slack columns out (SplitGrid state code) = IsFirstStranded grid slack columns out state code
 IsSplitAt grid slack columns out (RangeExceeded state) = ⊥
 IsSplitAt grid slack columns out (Memory e) = Unit {0}
 

@@ -17,7 +17,7 @@ use Rattle.grid_laplacian.specs.Ranges.{IsInRange}
 use Rattle.fb_certificate.specs.CracRows.{out_by_state}
 use Rattle.fb_certificate.specs.Whole.{AreStates, IsWhole}
 use Rattle.fb_certificate.specs.declared.types.Inputs.{Inputs}
-use Rattle.run_inputs.specs.Refusals.{IsFirstSplit, IsFirstOutOfRange, IsRefused, IsMemory, out_of}
+use Rattle.run_inputs.specs.Refusals.{IsFirstSplit, code_at, IsFirstStranded, IsFirstOutOfRange, IsRefused, IsMemory, out_of}
 use Rattle.run_inputs.specs.declared.fault.InputsError.{InputsError}
 use Rattle.run_inputs.specs.declared.fault.InputsError.TheVariants.{NoSlack, SplitGrid, RangeExceeded, Memory}
 
@@ -64,6 +64,11 @@ module _ (grid : Grid) (slack : ℕ) (columns : List Column) (out : List (List �
         | inr apart ↦ elim apart [ inl lower ↦ absurd (not_before state node state' node' h h' lower) | inr higher ↦ absurd (not_before state' node' state node h' h higher) ]
       ]
 
+  first_stranded_once : (state state' : ℕ) (code code' : List ℕ) → IsFirstStranded grid slack columns out state code → IsFirstStranded grid slack columns out state' code' → (state ≡ state') × (code ≡ code')
+  first_stranded_once state state' code code' h h' =
+      let once = first_split_once state h.node state' h'.node h.split h'.split in
+      (once.0, h.code_is ∙ ap (code_at grid) once.1 ∙ sym h'.code_is)
+
   not_outside_before : (state state' : ℕ) → IsFirstOutOfRange grid slack columns out state → IsFirstOutOfRange grid slack columns out state' → state < state' → ⊥
   not_outside_before state state' h h' lt = h.outside (h'.before state h.outage h.s lt h.here h.of_grid)
 
@@ -85,22 +90,22 @@ pub refused_once : (grid : Grid) (crac : Crac) (named : Option ℕ) (columns : L
 refused_once grid crac named columns (Memory d) e' h h' = inr (inl tt)
 refused_once grid crac named columns NoSlack (Memory d) h h' = inr (inr tt)
 refused_once grid crac named columns NoSlack NoSlack h h' = inl refl
-refused_once grid crac named columns NoSlack (SplitGrid state node) h h' = absurd (no_slack _ _ h h'.1)
+refused_once grid crac named columns NoSlack (SplitGrid state code) h h' = absurd (no_slack _ _ h h'.1)
 refused_once grid crac named columns NoSlack (RangeExceeded state) h h' = absurd (no_slack _ _ h h'.1)
-refused_once grid crac named columns (SplitGrid state node) (Memory d) h h' = inr (inr tt)
-refused_once grid crac named columns (SplitGrid state node) NoSlack h h' = absurd (no_slack _ _ h' h.1)
-refused_once grid crac named columns (SplitGrid state node) (SplitGrid state' node') h h' =
+refused_once grid crac named columns (SplitGrid state code) (Memory d) h h' = inr (inr tt)
+refused_once grid crac named columns (SplitGrid state code) NoSlack h h' = absurd (no_slack _ _ h' h.1)
+refused_once grid crac named columns (SplitGrid state code) (SplitGrid state' code') h h' =
     let slacks = same_Some h'.0 h.0 (sym h'.1 ∙ h.1) in
-    let once = first_split_once grid h.0 columns (out_of crac) state node state' node' h.2 (subst (λ (slack : ℕ). IsFirstSplit grid slack columns (out_of crac) state' node') slacks h'.2) in
+    let once = first_stranded_once grid h.0 columns (out_of crac) state state' code code' h.2 (subst (λ (slack : ℕ). IsFirstStranded grid slack columns (out_of crac) state' code') slacks h'.2) in
     inl (cc)
-refused_once grid crac named columns (SplitGrid state node) (RangeExceeded state') h h' =
+refused_once grid crac named columns (SplitGrid state code) (RangeExceeded state') h h' =
     let slacks = same_Some h'.0 h.0 (sym h'.1 ∙ h.1) in
-    absurd (not_both grid h.0 columns (out_of crac) state node state' h.2 (subst (λ (slack : ℕ). IsFirstOutOfRange grid slack columns (out_of crac) state') slacks h'.2))
+    absurd (not_both grid h.0 columns (out_of crac) state h.2.node state' h.2.split (subst (λ (slack : ℕ). IsFirstOutOfRange grid slack columns (out_of crac) state') slacks h'.2))
 refused_once grid crac named columns (RangeExceeded state) (Memory d) h h' = inr (inr tt)
 refused_once grid crac named columns (RangeExceeded state) NoSlack h h' = absurd (no_slack _ _ h' h.1)
-refused_once grid crac named columns (RangeExceeded state) (SplitGrid state' node') h h' =
+refused_once grid crac named columns (RangeExceeded state) (SplitGrid state' code') h h' =
     let slacks = same_Some h'.0 h.0 (sym h'.1 ∙ h.1) in
-    absurd (not_both grid h.0 columns (out_of crac) state' node' state (subst (λ (slack : ℕ). IsFirstSplit grid slack columns (out_of crac) state' node') slacks h'.2) h.2)
+    absurd (not_both grid h.0 columns (out_of crac) state' h'.2.node state (subst (λ (slack : ℕ). IsFirstSplit grid slack columns (out_of crac) state' h'.2.node) slacks h'.2.split) h.2)
 refused_once grid crac named columns (RangeExceeded state) (RangeExceeded state') h h' =
     let slacks = same_Some h'.0 h.0 (sym h'.1 ∙ h.1) in
     inl (ap RangeExceeded (first_out_of_range_once grid h.0 columns (out_of crac) state state' h.2 (subst (λ (slack : ℕ). IsFirstOutOfRange grid slack columns (out_of crac) state') slacks h'.2)))
@@ -125,8 +130,8 @@ whole_states inputs whole slack e =
 -- Where inputs are whole, nothing but want of memory is a refusal.
 pub refused_not_whole : (inputs : Inputs) → IsWhole inputs → (e : InputsError) → IsRefused inputs.grid inputs.crac inputs.settings.slack inputs.keys.columns e → IsMemory e
 refused_not_whole inputs whole NoSlack h = absurd (no_slack _ _ h whole.slack_node)
-refused_not_whole inputs whole (SplitGrid state node) h =
-    absurd (not_first_split inputs.grid h.0 inputs.keys.columns (out_of inputs.crac) inputs.states (whole_states inputs whole h.0 h.1) state node h.2)
+refused_not_whole inputs whole (SplitGrid state code) h =
+    absurd (not_first_split inputs.grid h.0 inputs.keys.columns (out_of inputs.crac) inputs.states (whole_states inputs whole h.0 h.1) state h.2.node h.2.split)
 refused_not_whole inputs whole (RangeExceeded state) h =
     absurd (not_first_out_of_range inputs.grid h.0 inputs.keys.columns (out_of inputs.crac) inputs.states (whole_states inputs whole h.0 h.1) state h.2)
 refused_not_whole inputs whole (Memory e) h = tt

@@ -1,8 +1,8 @@
 //! Puts the inputs of a run together.
 
-ghost use Rattle.std.specs.Prelude.{◌≡◌, length, All, IfOk, IfErr};
+ghost use Rattle.std.specs.Prelude.{◌≡◌, length, IfOk, IfErr};
 ghost use Rattle.run_settings.specs.Laws.{AreSettings};
-ghost use Rattle.run_settings.specs.ReductionLaws.{IsReduction};
+ghost use Rattle.run_settings.specs.ReductionLaws.{AreReductionsOf};
 ghost use Rattle.run_settings.specs.Views.{said};
 ghost use Rattle.glsk_keys.specs.Laws.{AreKeys};
 ghost use Rattle.fb_certificate.specs.Whole.{IsCracOver, IsWhole};
@@ -38,7 +38,7 @@ pub fn run_inputs(
     requires crac { IsCracOver (length grid.branches) crac }
     requires settings { AreSettings grid.nodes (said settings) }
     requires keys { AreKeys grid.nodes settings.zones keys }
-    requires reductions { All (IsReduction crac.elements) reductions }
+    requires reductions { AreReductionsOf crac.elements reductions }
     ensures whole { IfOk result IsWhole }
     ensures parts { IfOk result (λ inputs. (inputs.grid ≡ grid) × (inputs.crac ≡ crac) × (inputs.settings ≡ settings) × (inputs.keys ≡ keys) × (inputs.reductions ≡ reductions)) }
     ensures cause { IfErr result (IsRefused grid crac settings.slack keys.columns) }

@@ -1,5 +1,6 @@
 //! Why there are no inputs.
 
+use fb_types::Text;
 use std::alloc::AllocError;
 
 /// Why `run_inputs` answers no inputs. States go by their numbers: 0 is the base state, and behind it the states after each
@@ -9,8 +10,8 @@ pub enum InputsError {
     /// The settings name no slack node, and no node of the grid is of type 3.
     NoSlack,
     /// A node that feeds something in, or has a key weight, is of a class that is not live. The state is the first that is
-    /// split, and the node its first such node, by its place in the grid, from 0.
-    SplitGrid { state: u32, node: u32 },
+    /// split, and the node is the code of its first such node.
+    SplitGrid { state: u32, node: Text },
     /// Loads, generations, susceptances and phase shifts are outside the range rule. No state is split, and this one is the
     /// first outside the rule.
     RangeExceeded { state: u32 },

@@ -5,10 +5,11 @@ ghost use Rattle.grid_state.specs.Split.{AreKeysOf, first_stranded_node, IsSplit
 ghost use Rattle.grid_state.specs.States.{IsStateOf};
 ghost use Rattle.fb_certificate.specs.CracRows.{out_by_state};
 ghost use Rattle.fb_certificate.specs.Whole.{IsCracOver};
-ghost use Rattle.run_inputs.specs.Building.{out_in, AreUnsplit, refusal_at, IsSplitAt};
+ghost use Rattle.run_inputs.specs.Building.{out_in, AreUnsplit, IsToldAt, IsSplitAt};
+ghost use Rattle.run_inputs.specs.Refusals.{code_at};
 
 use crate::fault::InputsError;
-use fb_types::{Column, Crac, Grid, Items};
+use fb_types::{Column, Crac, Grid, Items, Text};
 use grid_state::{State, StateFault, state};
 use std::alloc::Global;
 
@@ -40,14 +41,27 @@ fn numbered_state(
     state(alloc, grid, slack, &contingency.branches, columns)
 }
 
+/// The code of the node at a place, counted from 0. It is empty past the end.
+fn code_at(grid: &Grid, node: u32) -> &str
+    ensures { result.now ≡ code_at grid.now node }
+{
+    match grid.nodes.get(u64::from(node)) {
+        Some(node) => node.code.as_text(),
+        None => "",
+    }
+}
+
 /// Why there are no inputs, where the state of this number is refused.
-fn refused_at(number: u32, fault: StateFault) -> InputsError
-    ensures { result ≡ refusal_at number fault }
+fn refused_at(alloc: Global, grid: &Grid, number: u32, fault: StateFault) -> InputsError
+    ensures { IsToldAt grid.now number fault result }
 {
     match fault {
-        StateFault::SplitGrid { node } => InputsError::SplitGrid {
-            state: number,
-            node,
+        StateFault::SplitGrid { node } => match Text::from_text(alloc, code_at(grid, node)) {
+            Ok(node) => InputsError::SplitGrid {
+                state: number,
+                node,
+            },
+            Err(e) => InputsError::Memory(e),
         },
         StateFault::Memory(e) => InputsError::Memory(e),
     }
@@ -74,7 +88,7 @@ pub fn states(
     for number in 0..outages.len() + 1 {
         match numbered_state(alloc, grid, slack, crac, outages, columns, number) {
             Ok(state) => states.add(state)?,
-            Err(fault) => return Err(refused_at(number as u32, fault)),
+            Err(fault) => return Err(refused_at(alloc, grid, number as u32, fault)),
         }
     }
     Ok(states)

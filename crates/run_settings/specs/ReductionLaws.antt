@@ -1,5 +1,6 @@
 -- What holds of all reductions that are read.
-use Rattle.std.specs.Prelude.{◌≡◌, ◌<◌, ◌^◌, pos, ◌≤ℤ◌, true, List, length, slice_get}
+use Rattle.std.specs.Prelude.{◌≡◌, ◌≢◌, ◌<◌, ◌^◌, pos, ◌≤ℤ◌, true, List, length, slice_get}
+use Rattle.std.specs.List.{All, AllPairs}
 use Rattle.fb_types.specs.declared.crac.Element.{Element}
 use Rattle.run_settings.specs.Reductions.{is_limited}
 use Rattle.run_settings.specs.declared.reduction.Reduction.{Reduction}
@@ -10,3 +11,12 @@ pub record IsReduction (elements : List Element) (r : Reduction) : Type 0 where
   pub limited : is_limited r.opposite (slice_get elements r.element) ≡ true
   pub cva : (pos 0 ≤ℤ r.cva) × (r.cva ≤ℤ pos (10 ^ 11))
   pub iva : (pos 0 ≤ℤ r.iva) × (r.iva ≤ℤ pos (10 ^ 11))
+
+-- two reductions are not of the same element in the same direction
+abbrev pub AreApart : Reduction → Reduction → Type 0
+AreApart r q = r.element ≡ q.element → r.opposite ≢ q.opposite
+
+-- no element is reduced twice in a direction
+pub record AreReductionsOf (elements : List Element) (reductions : List Reduction) : Type 0 where
+  pub each : All (IsReduction elements) reductions
+  pub once : AllPairs AreApart reductions

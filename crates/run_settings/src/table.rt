@@ -1,11 +1,10 @@
 //! A whole reductions document.
 
 ghost use Rattle.std.specs.Prelude.{◌≡◌, ℕ, true, false, IfOk, OnOk};
-ghost use Rattle.std.specs.List.{All};
 ghost use Rattle.csv.specs.Records.{fields_of};
 ghost use Rattle.csv_rows.specs.Rows.{rows_left, IsAtRow};
 ghost use Rattle.run_settings.specs.Records.{Reads, IsRowFault, AreReductions, ReadsRecords, HasHeader, HasNoHeader, JudgesAt, with_row};
-ghost use Rattle.run_settings.specs.ReductionLaws.{IsReduction};
+ghost use Rattle.run_settings.specs.ReductionLaws.{AreReductionsOf};
 ghost use Rattle.run_settings.specs.Reductions.{record_fault, reduction_in, IsReductionFault, HasNoReductionFault, reductions_of};
 
 use crate::elements::ElementTable;
@@ -105,8 +104,9 @@ pub fn read_reductions(
     // Where it has none, the answer is its reductions.
     ensures reductions { HasNoReductionFault crac.now.elements bytes.now → AreReductions (reductions_of crac.now.elements bytes.now) result }
 
-    // Each names an element that is limited in the direction, and is in its range.
-    ensures laws { IfOk result (λ reductions. All (IsReduction crac.now.elements) reductions) }
+    // Each names an element that is limited in the direction, and is in its range; no element is reduced twice in a
+    // direction.
+    ensures laws { IfOk result (AreReductionsOf crac.now.elements) }
 {
     read(alloc, bytes, crac)
 }

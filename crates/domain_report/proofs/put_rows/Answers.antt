@@ -1,16 +1,57 @@
-use Rattle.std.proofs.Common.{arith}
-use Rattle.domain_report.proofs.RowRecords.{count_more, rows_few, text_more}
+use Rattle.std.proofs.Common.{◌≡◌, ℕ, ◌+◌, ◌<◌, List, ◌++◌, length, get_or, sym, ap, subst, ◌∙◌, arith}
+use Rattle.std.proofs.lemmas.Option.{slice_get_within, get_or_from_slice_get}
+use Rattle.csv_rows.specs.Tables.{record_text}
+use Rattle.fb_types.specs.declared.crac.Contingency.{Contingency}
+use Rattle.fb_types.specs.declared.crac.Element.{Element}
+use Rattle.fb_certificate.specs.RunRows.{is_opposite}
+use Rattle.fb_certificate.specs.declared.types.RunRow.{RunRow}
+use Rattle.fb_certificate.proofs.RunLaws.{few_rows}
+use Rattle.domain_report.specs.DomainTexts.{row_fields}
+use Rattle.domain_report.proofs.RunRecords.{element_within, no_row, none_past, read_as, record_added, records_done}
 use Rattle.domain_report.proofs.put_rows.Goals as goal
 
-pub loop-element-preserved : goal.loop-element-preserved
-loop-element-preserved c =
-    let elements = c.as_slice-element-items.result.now in
-    let k = c.loop-element.element-index in
-    let element = c.element-item.result in
-    let before = c.loop-element.before in
-    record {
-      count = count_more elements k before c.in_ok-before.before element c.loop-element-test.true c.element-item.is c.loop-element.invariant.count (c.in_ok-before.ensures.count k);
-      few = omega (arith, c.loop-element.invariant.few, c.in_ok-before.ensures.count k, rows_few (k, element));
-      put = text_more c.args.crac.now.contingencies c.args.certificate.now elements k before element c.args.text.now.items c.loop-element.text.items c.put_element.new.text.items
-          c.loop-element-test.true c.element-item.is c.loop-element.invariant.count c.loop-element.invariant.put (c.in_ok-before.ensures.put k);
-    }
+pub overflow_cast-rows : goal.overflow_cast-rows
+overflow_cast-rows c = omega (arith, ap length c.requires.rows, few_rows c.args.inputs.now c.requires.whole)
+
+pub overflow_add-rows : goal.overflow_add-rows
+overflow_add-rows c = omega (arith, ap length c.requires.rows, few_rows c.args.inputs.now c.requires.whole)
+
+pub returns-in_default : goal.returns-in_default
+returns-in_default c =
+    let past = none_past c.args.certificate.now.rows c.loop-place.place c.in_default.ensures.item in
+    records_done c.args.inputs.now c.args.certificate.now c.loop-place.place c.args.text.now.items c.loop-place.text.items (omega (arith, past)) c.loop-place.invariant
+
+pub bounds-elements-row : goal.bounds-elements-row
+bounds-elements-row c =
+    subst (λ (es : List Element). (get_or c.args.rows.now c.loop-place.place no_row).element < length es) (sym c.as_slice-elements.ensures.items)
+    (element_within c.args.inputs.now c.args.rows.now c.loop-place.place no_row c.requires.rows c.loop-place-test.true)
+
+pub overflow_cast-place : goal.overflow_cast-place
+overflow_cast-place c = omega (arith, c.loop-place-test.true, ap length c.requires.rows, few_rows c.args.inputs.now c.requires.whole)
+
+pub overflow_add-place : goal.overflow_add-place
+overflow_add-place c = omega (arith, c.loop-place-test.true, ap length c.requires.rows, few_rows c.args.inputs.now c.requires.whole)
+
+pub loop-place-preserved : goal.loop-place-preserved
+loop-place-preserved c =
+    let inputs = c.args.inputs.now in
+    let certificate = c.args.certificate.now in
+    let k = c.loop-place.place in
+    let row : RunRow = get_or c.args.rows.now k no_row in
+    let numbers = c.in-Some.numbers.now in
+    let element = c.index-elements-row.result in
+    let stands = sym c.in-Some.ensures.item in
+    let fields = c.in_ok-fields.ensures certificate (length c.args.rows.now + 1) c.in_ok-cites.ensures in
+    record_added inputs certificate k row numbers element c.args.text.now.items c.loop-place.text.items c.put_record.new.text.items
+    (omega (arith, c.loop-place-test.true, ap length c.requires.rows)) (slice_get_within certificate.rows k numbers stands)
+    (read_as inputs c.args.rows.now k no_row c.requires.rows c.loop-place-test.true) (sym (get_or_from_slice_get certificate.rows k numbers numbers stands))
+    (c.index-elements-row.is ∙ ap (λ (es : List Element). get_or es row.element element) c.as_slice-elements.ensures.items)
+    c.loop-place.invariant
+    (c.in_ok-put_record.ensures
+    ∙ ap (λ (f : List (List ℕ)). c.loop-place.text.items ++ record_text f) (c.as_slice.ensures.items ∙ fields)
+    ∙ ap (λ (known : List Contingency). c.loop-place.text.items ++ record_text (row_fields known certificate (k + 1) element (is_opposite row.direction) numbers)) c.as_slice-contingencies.ensures.items)
+
+pub returns : goal.returns
+returns c =
+    records_done c.args.inputs.now c.args.certificate.now c.loop-place.place c.args.text.now.items c.loop-place.text.items
+    (omega (arith, c.loop-place-test.false, ap length c.requires.rows)) c.loop-place.invariant

@@ -2,7 +2,7 @@ use Rattle.std.proofs.Common.{◌<◌, List, length, get_or, sym, ap, subst, ◌
 use Rattle.grid_state.specs.GridState.{GridState}
 use Rattle.grid_laplacian.specs.Ranges.{IsOfGrid, IsInRange}
 use Rattle.fb_certificate.proofs.WholeLaws.{are_keys, keys_at_nodes, state_of_grid, state_in_range}
-use Rattle.domain_maker.proofs.RowLaws.{proof_added}
+use Rattle.domain_maker.proofs.StateLaws.{proof_added}
 use Rattle.domain_maker.proofs.states.prove_states.Goals as goal
 
 pub prove_after-requires-clause-of_grid : goal.prove_after-requires-clause-of_grid

@@ -1,5 +1,6 @@
-use Rattle.std.proofs.Common.{◌≡◌, ℕ, ℤ, List, [], ◌∷◌, ◌++◌, map, ap, ◌∙◌, append_assoc}
+use Rattle.std.proofs.Common.{◌≡◌, ℕ, ℤ, Bool, List, [], ◌∷◌, ◌++◌, map, ap, ◌∙◌, append_assoc}
 use Rattle.std.specs.Fmt.{signed_decimal}
+use Rattle.fb_certificate.specs.RunRows.{is_opposite}
 use Rattle.fb_certificate.specs.Lists.{inner_list, outer_list}
 use Rattle.domain_report.specs.DomainTexts.{labels, sides, coefficients, citations, citation, fate_word}
 use Rattle.domain_report.specs.Standings.{sides_of, standing_word, standing_citation}
@@ -7,16 +8,15 @@ use Rattle.domain_report.proofs.Parts.{four_parts}
 use Rattle.domain_report.proofs.rows.row_fields.Goals as goal
 
 pub returns : goal.returns
-returns c =
-    let certificate = c.args.certificate.now in
+returns c = λ certificate count are.
     let number = c.args.number in
     let row = c.args.row.now in
     let inner = c.standing_of-inner.result in
     let outer = c.standing_of-outer.result in
     let inner_listed = c.is_inner.ensures in
     let outer_listed = c.is_outer.ensures in
-    let inner_cites = c.as_slice.ensures.items in
-    let outer_cites = c.as_slice-2.ensures.items in
+    let inner_cites = are.inner.same in
+    let outer_cites = are.outer.same in
     let inner_word : standing_word inner ≡ fate_word (inner_list.holds row.class) certificate.inner number =
     c.standing_of-inner.ensures.word ∙ (λ i. fate_word (inner_listed i) (inner_cites i) number) in
     let outer_word : standing_word outer ≡ fate_word (outer_list.holds row.class) certificate.outer number =
@@ -33,9 +33,10 @@ returns c =
     ∙ ap (λ (f : List (List ℕ)). f ++ standing_citation outer ∷ []) c.in_ok-put_citation.ensures
     ∙ append_assoc weighed (standing_citation inner ∷ []) (standing_citation outer ∷ [])
     ∙ (λ i. weighed ++ (inner_by i ∷ outer_by i ∷ [])) in
-    four_parts (labels c.args.contingencies.now number c.args.element.now c.args.opposite) (sides certificate number row) (coefficients row) (citations certificate number row)
+    four_parts (labels c.args.contingencies.now number c.args.element.now (is_opposite c.args.direction)) (sides certificate number row) (coefficients row) (citations certificate number row)
     c.new-fields.result named sided weighed c.put_citation-2.new.fields
-    c.new-fields.ensures.empty c.in_ok-put_labels.ensures
+    c.new-fields.ensures.empty
+    (c.in_ok-put_labels.ensures ∙ ap (λ (o : Bool). c.new-fields.result ++ labels c.args.contingencies.now number c.args.element.now o) c.is_opposite-opposite.ensures)
     (c.in_ok-put_sides.ensures ∙ (λ i. named ++ sides_of (inner_word i) (outer_word i) row))
-    (c.in_ok-put_wholes.ensures ∙ ap (λ (a : List ℤ). sided ++ map signed_decimal a) c.as_slice-3.ensures.items)
+    (c.in_ok-put_wholes.ensures ∙ ap (λ (a : List ℤ). sided ++ map signed_decimal a) c.as_slice.ensures.items)
     cited

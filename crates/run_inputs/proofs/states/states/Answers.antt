@@ -10,7 +10,7 @@ returns-in-Err-clause-cause c =
     let size = length-map c.args.outages.now (branches_out c.args.crac.now.contingencies) in
     let test = c.loop-number-test.true in
     let within : c.loop-number.number < length out = omega arith in
-    rw c.refused_at.ensures (refusal_is c.args.grid.now c.args.slack c.args.columns.now out c.loop-number.number c.loop-number.states c.in-Err.fault within c.loop-number.invariant c.in-Err.ensures.cause)
+    refusal_is c.args.grid.now c.args.slack c.args.columns.now out c.loop-number.number c.loop-number.states c.in-Err.fault c.refused_at.result within c.loop-number.invariant c.in-Err.ensures.cause c.refused_at.ensures
 
 pub loop-number-preserved : goal.loop-number-preserved
 loop-number-preserved c =

@@ -1,0 +1,4 @@
+pub mod Listing
+pub mod Renumbering
+pub mod Citing
+pub mod Removing

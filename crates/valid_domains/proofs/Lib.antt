@@ -1,0 +1,4 @@
+pub mod Known
+pub mod NearRows
+pub mod NumberRanges
+pub mod Theorem
