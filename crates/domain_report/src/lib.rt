@@ -19,6 +19,8 @@ use columns::header;
 use fb_certificate::{Certificate, Inputs, RunRow, run_rows};
 use fields::put_record;
 use rows::row_fields;
+pub use rows::{class_word, contingency_id};
+pub use standing::citation_text;
 use std::alloc::{AllocError, Global};
 
 /// The text of a domain: a CSV table with a header and a record for each row of the CRAC, element by element, DIRECT before

@@ -61,7 +61,7 @@ fn put_labels(
 }
 
 /// The id of a contingency of the list, empty in the base state.
-fn contingency_id(contingencies: &[Contingency], contingency: Option<u32>) -> &str
+pub fn contingency_id(contingencies: &[Contingency], contingency: Option<u32>) -> &str
     ensures { result.now ≡ contingency_id contingencies.now contingency }
 {
     let Some(place) = contingency else {
@@ -79,7 +79,8 @@ fn direction_word(opposite: bool) -> &'static str
     if opposite { "OPPOSITE" } else { "DIRECT" }
 }
 
-fn class_word(class: Class) -> &'static str
+/// The word of a class.
+pub fn class_word(class: Class) -> &'static str
     ensures { result.now ≡ class_word class }
 {
     match class {

@@ -75,12 +75,12 @@ pub(crate) fn citation(alloc: Global, standing: Standing) -> Result<String, Allo
     match standing {
         Standing::Absent => Ok(String::new(alloc)),
         Standing::Kept => Ok(String::new(alloc)),
-        Standing::Removed(by) => multipliers_text(alloc, by),
+        Standing::Removed(by) => citation_text(alloc, by),
     }
 }
 
 /// Multipliers as text: mu, and then for each multiplier a blank, its row, a colon and its value.
-fn multipliers_text(alloc: Global, by: &Multipliers) -> Result<String, AllocError>
+pub fn citation_text(alloc: Global, by: &Multipliers) -> Result<String, AllocError>
     ensures { IfOk result (λ text. string_bytes text ≡ citation_text by.now) }
 {
     let mu = by.mu;

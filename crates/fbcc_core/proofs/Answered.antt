@@ -5,50 +5,34 @@ use Rattle.fb_certificate.specs.declared.types.Inputs.{Inputs}
 use Rattle.rows_document.specs.declared.reader.RowsDocument.{RowsDocument}
 use Rattle.fbcc_core.specs.Causes.{Comes, IsOutOfMemory, IsCaused, Refuses, Judges, Completes, IsUntouched, Took}
 use Rattle.fbcc_core.specs.Commands.{IsYes, IsNo, domain_inputs, domain_work, work_of}
+use Rattle.fbcc_core.specs.Papers.{command_of}
 use Rattle.fbcc_core.specs.Printed.{IsDomainPut, PrintsCapacity}
 use Rattle.fbcc_core.specs.Seen.{ShelfSeen, SinkSeen, ShelfFailed}
 use Rattle.fbcc_core.specs.Steps.{IsMemory}
 use Rattle.fbcc_core.specs.Telling.{IsMade, IsKept}
-use Rattle.fbcc_core.specs.Words.{Asks, word_of}
+use Rattle.fbcc_core.specs.Words.{Asks, Names, name_given}
 use Rattle.fbcc_core.specs.declared.answer.Fault.{Fault}
 use Rattle.fbcc_core.specs.declared.answer.Fault.TheVariants.{No, Usage, ReadFault, TooLong, GridFault, JsonFault, CracFault, KeyFault, SettingsFault, ReductionFault, NoSlack, SplitGrid, RangeExceeded, CertificateFault, WriteFault, Memory}
+use Rattle.fbcc_core.specs.declared.paper.Paper.{Paper}
+use Rattle.fbcc_core.specs.declared.paper.Paper.TheVariants.{Table, Evidence, Report}
 use Rattle.fbcc_core.specs.declared.request.Command.{Command}
 use Rattle.fbcc_core.specs.declared.request.Command.TheVariants as command
 use Rattle.fbcc_core.specs.declared.work.Work.{Work}
 use Rattle.fbcc_core.proofs.Agreement.{Agrees}
+use Rattle.fbcc_core.proofs.Asking.{command_same}
 use Rattle.fbcc_core.proofs.OneAnswer.{JudgeSame, work_once, inputs_once}
 
 -- ---- The words ask for one command
 
-first_same : (a b : List ℕ) (more rest : List (List ℕ)) → a ∷ more ≡ b ∷ rest → a ≡ b
-first_same a b more rest e = cc
-
-word_same : (words : List (List ℕ)) (c d : Command) → Asks words c → Asks words d → word_of c ≡ word_of d
-word_same words c d p q = first_same (word_of c) (word_of d) _ _ (sym p.spelled_so ∙ q.spelled_so)
-
-command_by_word : (c d : Command) → word_of c ≡ word_of d → c ≡ d
-command_by_word command.Rows command.Rows e = refl
-command_by_word command.Rows command.Net e = cc
-command_by_word command.Rows command.Domain e = cc
-command_by_word command.Net command.Rows e = cc
-command_by_word command.Net command.Net e = refl
-command_by_word command.Net command.Domain e = cc
-command_by_word command.Domain command.Rows e = cc
-command_by_word command.Domain command.Net e = cc
-command_by_word command.Domain command.Domain e = refl
-
-command_same : (words : List (List ℕ)) (c d : Command) → Asks words c → Asks words d → c ≡ d
-command_same words c d p q = command_by_word c d (word_same words c d p q)
-
-steps_same : (words : List (List ℕ)) (shelf : ShelfSeen) (r : Result Work Fault) (c : Command) → Asks words c → (h : Comes words shelf r) → work_of words shelf c r
-steps_same words shelf r c asked h = subst (λ (x : Command). work_of words shelf x r) (command_same words h.command c h.asked asked) h.steps
+steps_same : (words : List (List ℕ)) (shelf : ShelfSeen) (r : Result Work Fault) (c : Command) → Asks words c → (h : Comes words shelf r) → work_of (name_given words) shelf c r
+steps_same words shelf r c asked h = subst (λ (x : Command). work_of (name_given words) shelf x r) (command_same words h.command c h.asked asked) h.steps
 
 comes_once : (words : List (List ℕ)) (shelf : ShelfSeen) → IsTrue shelf.tells → ¬ ShelfFailed shelf → Agrees JudgeSame (Comes words shelf) (Comes words shelf)
 comes_once words shelf told fine = record {
-  both = λ v w s t. (work_once words shelf told fine t.command).both v w (steps_same words shelf (Ok v) t.command t.asked s) t.steps;
-  given = λ v g s t. (work_once words shelf told fine t.command).given v g (steps_same words shelf (Ok v) t.command t.asked s) t.steps;
-  refused = λ f w s t. (work_once words shelf told fine t.command).refused f w (steps_same words shelf (Err f) t.command t.asked s) t.steps;
-  neither = λ f g s t. (work_once words shelf told fine t.command).neither f g (steps_same words shelf (Err f) t.command t.asked s) t.steps;
+  both = λ v w s t. (work_once (name_given words) shelf told fine t.command).both v w (steps_same words shelf (Ok v) t.command t.asked s) t.steps;
+  given = λ v g s t. (work_once (name_given words) shelf told fine t.command).given v g (steps_same words shelf (Ok v) t.command t.asked s) t.steps;
+  refused = λ f w s t. (work_once (name_given words) shelf told fine t.command).refused f w (steps_same words shelf (Err f) t.command t.asked s) t.steps;
+  neither = λ f g s t. (work_once (name_given words) shelf told fine t.command).neither f g (steps_same words shelf (Err f) t.command t.asked s) t.steps;
 }
 
 -- ---- Verdicts
@@ -77,10 +61,12 @@ rows_verdict : (d : RowsDocument) (work : Work) → IsYes d work ⊎ IsNo d work
 rows_verdict d work (inl y) = subst IsVerdict (sym y.verdict) tt
 rows_verdict d work (inr n) = subst IsVerdict (sym n.verdict) tt
 
-verdict_of : (words : List (List ℕ)) (shelf : ShelfSeen) (c : Command) (work : Work) → work_of words shelf c (Ok work) → IsVerdict work.verdict
-verdict_of words shelf command.Rows work h = rows_verdict h.0 work h.2
-verdict_of words shelf command.Net work h = subst IsVerdict (sym h.2.verdict) tt
-verdict_of words shelf command.Domain work h = subst IsVerdict (sym h.2.verdict) tt
+verdict_of : (names : Names) (shelf : ShelfSeen) (c : Command) (work : Work) → work_of names shelf c (Ok work) → IsVerdict work.verdict
+verdict_of names shelf command.Rows work h = rows_verdict h.0 work h.2
+verdict_of names shelf command.Net work h = subst IsVerdict (sym h.2.verdict) tt
+verdict_of names shelf command.Domain work h = subst IsVerdict (sym h.2.verdict) tt
+verdict_of names shelf command.Certify work h = subst IsVerdict (sym h.2.verdict) tt
+verdict_of names shelf command.Report work h = subst IsVerdict (sym h.2.verdict) tt
 
 -- a fault whose line takes memory is no verdict
 made_apart : (fault : Fault) → IsMade fault → IsVerdict (Some fault) → ⊥
@@ -108,7 +94,7 @@ some_same f g e = cc
 
 made_untouched : (words : List (List ℕ)) (shelf : ShelfSeen) (out : SinkSeen) (fault : Fault) → IsMade fault → IsCaused words shelf out (Some fault) → IsUntouched out
 made_untouched words shelf out fault made (inl m) = m.put
-made_untouched words shelf out fault made (inr (inl d)) = absurd (made_apart fault made (subst IsVerdict (sym d.is) (verdict_of words shelf d.comes.command d.work d.comes.steps)))
+made_untouched words shelf out fault made (inr (inl d)) = absurd (made_apart fault made (subst IsVerdict (sym d.is) (verdict_of (name_given words) shelf d.comes.command d.work d.comes.steps)))
 made_untouched words shelf out fault made (inr (inr (inl r))) = r.put
 made_untouched words shelf out fault made (inr (inr (inr (inl u)))) = absurd (subst IsMade (some_same fault WriteFault u.is) made)
 made_untouched words shelf out fault made (inr (inr (inr (inr s)))) = s.put
@@ -123,7 +109,7 @@ kept_caused words shelf out (Some fault) (Some told) (inr m) h = inr (inr (inr (
 no_memory : IsMemory Usage → ⊥
 no_memory m = let e = m.1 in cc
 
-pub kept_usage : (answer told : Option Fault) → IsKept answer told → answer ≡ Some Usage → told ≡ Some Usage
+kept_usage : (answer told : Option Fault) → IsKept answer told → answer ≡ Some Usage → told ≡ Some Usage
 kept_usage None told k e = cc
 kept_usage (Some fault) None k e = absurd k
 kept_usage (Some fault) (Some told) (inl same) e = ap (λ (f : Fault). Some f) same ∙ e
@@ -134,6 +120,17 @@ usage_kept None told k e = sym k ∙ e
 usage_kept (Some fault) None k e = absurd k
 usage_kept (Some fault) (Some told) (inl same) e = ap (λ (f : Fault). Some f) (sym same) ∙ e
 usage_kept (Some fault) (Some told) (inr m) e = absurd (no_memory (subst IsMemory (some_same told Usage e) m.1))
+
+-- want of memory stays want of memory
+memory_kept : (answer told : Option Fault) → IsKept answer told → IsOutOfMemory answer → IsOutOfMemory told
+memory_kept None told k m = absurd m
+memory_kept (Some fault) None k m = absurd k
+memory_kept (Some fault) (Some told) (inl same) m = subst IsMemory (sym same) m
+memory_kept (Some fault) (Some told) (inr n) m = n.1
+
+pub misused_kept : (answer told : Option Fault) → IsKept answer told → (answer ≡ Some Usage) ⊎ IsOutOfMemory answer → (told ≡ Some Usage) ⊎ IsOutOfMemory told
+misused_kept answer told k (inl e) = inl (kept_usage answer told k e)
+misused_kept answer told k (inr m) = inr (memory_kept answer told k m)
 
 -- ---- Each answer comes wherever it is caused
 
@@ -159,34 +156,46 @@ judges words shelf out answer (inr (inr (inl r))) work comes told fine put = inr
 judges words shelf out answer (inr (inr (inr (inl u)))) work comes told fine put = absurd (put u.put.0)
 judges words shelf out answer (inr (inr (inr (inr s)))) work comes told fine put = inr s.is
 
+-- the work of a command that prints a domain
+paper_work : (paper : Paper) (names : Names) (shelf : ShelfSeen) (r : Result Work Fault) → work_of names shelf (command_of paper) r → domain_work paper names shelf r
+paper_work Table names shelf r h = h
+paper_work Evidence names shelf r h = h
+paper_work Report names shelf r h = h
+
+paper_steps : (paper : Paper) (words : List (List ℕ)) (shelf : ShelfSeen) (r : Result Work Fault) → Asks words (command_of paper) → Comes words shelf r → domain_work paper (name_given words) shelf r
+paper_steps paper words shelf r asked comes = paper_work paper (name_given words) shelf r (steps_same words shelf r (command_of paper) asked comes)
+
 -- where there are inputs, no step of a domain refuses
-domain_refused : (words : List (List ℕ)) (shelf : ShelfSeen) → IsTrue shelf.tells → ¬ ShelfFailed shelf → (inputs : Inputs) → domain_inputs words shelf (Ok inputs) → (fault : Fault) → domain_work words shelf (Err fault) → IsMemory fault
-domain_refused words shelf told fine inputs given fault (inl h) = (inputs_once words shelf told fine).given inputs fault given h
-domain_refused words shelf told fine inputs given fault (inr h) = elim h.2 [ inl none ↦ absurd none | inr m ↦ m ]
+domain_refused : (paper : Paper) (names : Names) (shelf : ShelfSeen) → IsTrue shelf.tells → ¬ ShelfFailed shelf → (inputs : Inputs) → domain_inputs names shelf (Ok inputs) → (fault : Fault) → domain_work paper names shelf (Err fault)
+    → IsMemory fault
+domain_refused paper names shelf told fine inputs given fault (inl h) = (inputs_once names shelf told fine).given inputs fault given h
+domain_refused paper names shelf told fine inputs given fault (inr h) = elim h.2 [ inl none ↦ absurd none | inr m ↦ m ]
 
 pub completes : (words : List (List ℕ)) (shelf : ShelfSeen) (out : SinkSeen) (answer : Option Fault) → IsCaused words shelf out answer → Completes words shelf out answer
-completes words shelf out answer (inl m) inputs asked given told fine put = absurd (m.refused (record { command = command.Domain; asked = asked }))
-completes words shelf out answer (inr (inl d)) inputs asked given told fine put = inl (d.is ∙ (steps_same words shelf (Ok d.work) command.Domain asked d.comes).2.verdict)
-completes words shelf out answer (inr (inr (inl r))) inputs asked given told fine put =
-    inr (memory_answer answer r.fault r.is (domain_refused words shelf told fine inputs given r.fault (steps_same words shelf (Err r.fault) command.Domain asked r.comes)))
-completes words shelf out answer (inr (inr (inr (inl u)))) inputs asked given told fine put = absurd (put u.put.0)
-completes words shelf out answer (inr (inr (inr (inr s)))) inputs asked given told fine put = inr s.is
+completes words shelf out answer (inl m) paper inputs asked given told fine put = absurd (m.refused (record { command = command_of paper; asked = asked }))
+completes words shelf out answer (inr (inl d)) paper inputs asked given told fine put = inl (d.is ∙ (paper_steps paper words shelf (Ok d.work) asked d.comes).2.verdict)
+completes words shelf out answer (inr (inr (inl r))) paper inputs asked given told fine put =
+    inr (memory_answer answer r.fault r.is (domain_refused paper (name_given words) shelf told fine inputs given r.fault (paper_steps paper words shelf (Err r.fault) asked r.comes)))
+completes words shelf out answer (inr (inr (inr (inl u)))) paper inputs asked given told fine put = absurd (put u.put.0)
+completes words shelf out answer (inr (inr (inr (inr s)))) paper inputs asked given told fine put = inr s.is
 
 -- ---- A domain that is printed
 
-domain_put : (words : List (List ℕ)) (shelf : ShelfSeen) (out : SinkSeen) (work : Work) → domain_work words shelf (Ok work) → Took out work.text → IsDomainPut words shelf out
-domain_put words shelf out work h put = record {
+domain_put : (paper : Paper) (words : List (List ℕ)) (shelf : ShelfSeen) (out : SinkSeen) (work : Work) → domain_work paper (name_given words) shelf (Ok work) → Took out work.text → IsDomainPut paper words shelf out
+domain_put paper words shelf out work h put = record {
   inputs = h.0;
   said = h.1;
   certificate = h.2.certificate;
   sound = h.2.sound;
   thin = h.2.thin;
-  put = subst (Took out) h.2.text put;
+  text = work.text;
+  says = h.2.text;
+  put = put;
 }
 
 pub prints_capacity : (words : List (List ℕ)) (shelf : ShelfSeen) (out : SinkSeen) (answer : Option Fault) → IsCaused words shelf out answer → PrintsCapacity words shelf out answer
-prints_capacity words shelf out answer (inl m) asked none = absurd (m.refused (record { command = command.Domain; asked = asked }))
-prints_capacity words shelf out answer (inr (inl d)) asked none = domain_put words shelf out d.work (steps_same words shelf (Ok d.work) command.Domain asked d.comes) d.put
-prints_capacity words shelf out answer (inr (inr (inl r))) asked none = absurd (let e = r.is in cc)
-prints_capacity words shelf out answer (inr (inr (inr (inl u)))) asked none = absurd (let e = u.is in cc)
-prints_capacity words shelf out answer (inr (inr (inr (inr s)))) asked none = absurd (subst IsOutOfMemory none s.is)
+prints_capacity words shelf out answer (inl m) paper asked none = absurd (m.refused (record { command = command_of paper; asked = asked }))
+prints_capacity words shelf out answer (inr (inl d)) paper asked none = domain_put paper words shelf out d.work (paper_steps paper words shelf (Ok d.work) asked d.comes) d.put
+prints_capacity words shelf out answer (inr (inr (inl r))) paper asked none = absurd (let e = r.is in cc)
+prints_capacity words shelf out answer (inr (inr (inr (inl u)))) paper asked none = absurd (let e = u.is in cc)
+prints_capacity words shelf out answer (inr (inr (inr (inr s)))) paper asked none = absurd (subst IsOutOfMemory none s.is)

@@ -1,59 +1,67 @@
--- Words that are a command with its options.
-use Rattle.std.proofs.Common.{◌≡◌, ◌≢◌, ℕ, ◌-◌, ◌≤◌, ◌<◌, List, [], ◌∷◌, map, length, get_or, take, drop, true, false, refl, sym, subst, ap, ◌∙◌, arith}
-use Rattle.std.specs.Prelude.{All, is_some}
-use Rattle.std.specs.Str.{bytes_eq}
-use Rattle.std.proofs.lemmas.List.{take_all, get_or-map, length-map}
-use Rattle.std.proofs.lemmas.List.Elements.{All-map}
-use Rattle.std.proofs.lemmas.Slice.Eq.{bytes_eq-Decides}
-use Rattle.fbcc_core.specs.Words.{Accepts, Asks, AreOptions, allowed_by, given_options, needed_by, option_for, options_in, spelled, value_of, word_of}
+-- What the words ask for, and what they name.
+use Rattle.std.proofs.Common.{◌≡◌, ◌∙◌, ℕ, List, [], true, ap, subst, sym}
+use Rattle.std.proofs.Math.Path.{fun_ext}
+use Rattle.std.proofs.lemmas.Option.{same_Some}
+use Rattle.std.specs.Prelude.{Option, Some, None, Result}
+use Rattle.command_words.specs.Words.{Asks as IsRequestOf}
+use Rattle.command_words.specs.declared.request.Request.{Request}
+use Rattle.fbcc_core.specs.Causes.{Comes}
+use Rattle.fbcc_core.specs.Commands.{work_of}
+use Rattle.fbcc_core.specs.Seen.{ShelfSeen}
+use Rattle.fbcc_core.specs.Words.{Accepts, Asks, Names, built, name_given, names_of}
 use Rattle.fbcc_core.specs.declared.answer.Document.{Document}
+use Rattle.fbcc_core.specs.declared.answer.Document.TheVariants as document
+use Rattle.fbcc_core.specs.declared.answer.Fault.{Fault}
 use Rattle.fbcc_core.specs.declared.request.Command.{Command}
-use Rattle.fbcc_core.specs.declared.request.Command.TheVariants.{Rows, Net, Domain}
+use Rattle.fbcc_core.specs.declared.work.Work.{Work}
 
--- the first word, and the words behind it
-pub first_word : {X : Type 0} (f : X → List ℕ) (ws : List X) (word : X) → 1 ≤ length ws → word ≡ get_or ws 0 word → map f ws ≡ f word ∷ map f (take (length ws - 1) (drop 1 ws))
-first_word f [] word long is_word = absurd (omega arith)
-first_word {X = X} f (w ∷ ws) word long is_word =
-    let all : take (length (w ∷ ws) - 1) ws ≡ ws = take_all _ ws (omega arith) in
-    ap (λ (x : X). f x ∷ map f ws) (sym is_word) ∙ ap (λ (more : List X). f word ∷ map f more) (sym all)
+-- ---- One command
 
--- each command has a word of its own
-apart : (a b : List ℕ) → bytes_eq a b ≡ false → a ≢ b
-apart a b test same = let e : bytes_eq a b ≡ true = (bytes_eq-Decides a b).1 same in absurd cc
+-- the same words are requests for the same command of the call
+any_same : (words : List (List ℕ)) (p q : Request) → IsRequestOf words p → IsRequestOf words q → p.command ≡ q.command
+any_same words p q a b = same_Some p.command q.command (sym a.found.command ∙ b.found.command)
 
-pub word_of-injective : (a b : Command) → word_of a ≡ word_of b → a ≡ b
-word_of-injective Rows Rows same = refl
-word_of-injective Rows Net same = absurd (apart (word_of Rows) (word_of Net) refl same)
-word_of-injective Rows Domain same = absurd (apart (word_of Rows) (word_of Domain) refl same)
-word_of-injective Net Rows same = absurd (apart (word_of Net) (word_of Rows) refl same)
-word_of-injective Net Net same = refl
-word_of-injective Net Domain same = absurd (apart (word_of Net) (word_of Domain) refl same)
-word_of-injective Domain Rows same = absurd (apart (word_of Domain) (word_of Rows) refl same)
-word_of-injective Domain Net same = absurd (apart (word_of Domain) (word_of Net) refl same)
-word_of-injective Domain Domain same = refl
+pub command_same : (words : List (List ℕ)) (c d : Command) → Asks words c → Asks words d → c ≡ d
+command_same words c d p q =
+    same_Some c d (sym p.is_built ∙ ap built (any_same words p.request q.request p.asked q.asked) ∙ q.is_built)
 
--- there is an option for each of these documents
-abbrev pub AreGiven : List Document → List (List ℕ) → Type 0
-AreGiven documents options = All (λ document. is_some (value_of (option_for document) (options_in options)) ≡ true) documents
+-- ---- Words that are accepted, and words that are not
 
-pub asks : (words options : List (List ℕ)) (word : List ℕ) (command : Command) (needed : List Document) → words ≡ word ∷ options → word ≡ word_of command → options ≡ spelled (options_in options)
-    → AreOptions (allowed_by command) (options_in options) → map option_for needed ≡ needed_by command → AreGiven needed options → Asks words command
-asks words options word command needed first is_word whole are needed_is given =
-    subst (λ (ws : List (List ℕ)). Asks ws command) (sym first) (record {
-      spelled_so = ap (λ (w : List ℕ). w ∷ options) is_word ∙ ap (λ (os : List (List ℕ)). word_of command ∷ os) whole;
-      options = are;
-      complete = subst (All (λ name. is_some (value_of name (options_in options)) ≡ true)) needed_is (All-map (λ name. is_some (value_of name (options_in options)) ≡ true) option_for needed given);
-    })
+pub no_request : (words : List (List ℕ)) → ((request : Request) → ¬ IsRequestOf words request) → ¬ Accepts words
+no_request words none accepted = none accepted.asked.request accepted.asked.asked
 
-pub given_needed : (options : List (List ℕ)) (needed : List Document) → All (λ name. is_some (value_of name (options_in options)) ≡ true) (map option_for needed) → AreGiven needed options
-given_needed options needed all = λ k d within.
-    subst (λ (name : List ℕ). is_some (value_of name (options_in options)) ≡ true) (get_or-map option_for needed k d (option_for d) within) (all k (option_for d) (subst (λ n. k < n) (sym (length-map needed option_for)) within))
+pub not_built : (words : List (List ℕ)) (request : Request) → IsRequestOf words request → built request.command ≡ None
+    → ¬ Accepts words
+not_built words request asked none accepted =
+    let same = any_same words request accepted.asked.request asked accepted.asked.asked in
+    let some : None ≡ Some accepted.command = sym none ∙ ap built same ∙ accepted.asked.is_built in
+    cc
 
-pub incomplete : (words options : List (List ℕ)) (word : List ℕ) (command : Command) (needed : List Document) → words ≡ word ∷ options → word ≡ word_of command → map option_for needed ≡ needed_by command
-    → ¬ AreGiven needed options → ¬ Accepts words
-incomplete words options word command needed first is_word needed_is lacks accepted =
-    let a = subst Accepts first accepted in
-    let spelled_so : word ∷ options ≡ word_of accepted.command ∷ spelled (given_options words) = sym first ∙ accepted.asked.spelled_so in
-    let head : word ≡ word_of a.command = cc in
-    let same : a.command ≡ command = word_of-injective a.command command (sym head ∙ is_word) in
-    lacks (given_needed options needed (subst (All (λ name. is_some (value_of name (options_in options)) ≡ true)) (ap needed_by same ∙ sym needed_is) a.asked.complete))
+pub accepts : (words : List (List ℕ)) (request : Request) (c : Command) → IsRequestOf words request
+    → built request.command ≡ Some c → Accepts words
+accepts words request c asked is_built =
+    record { command = c; asked = record { request = request; asked = asked; is_built = is_built } }
+
+-- ---- Names
+
+name_same : (words : List (List ℕ)) (request : Request) → IsRequestOf words request → (d : Document)
+    → names_of request d ≡ name_given words d
+name_same words request asked document.Grid = asked.found.grid
+name_same words request asked document.Crac = asked.found.crac
+name_same words request asked document.Settings = asked.found.settings
+name_same words request asked document.Glsk = asked.found.glsk
+name_same words request asked document.Reductions = asked.found.reductions
+name_same words request asked document.Rows = asked.found.rows
+
+-- the names in the request are those that the words give
+pub names_same : (words : List (List ℕ)) (request : Request) → IsRequestOf words request → names_of request ≡ name_given words
+names_same words request asked = fun_ext (name_same words request asked)
+
+-- what the work of the request comes to, the words come to
+pub comes : (words : List (List ℕ)) (request : Request) (shelf : ShelfSeen) (c : Command) (r : Result Work Fault)
+    → IsRequestOf words request → built request.command ≡ Some c → work_of (names_of request) shelf c r → Comes words shelf r
+comes words request shelf c r asked is_built steps = record {
+  command = c;
+  asked = record { request = request; asked = asked; is_built = is_built };
+  steps = subst (λ (names : Names). work_of names shelf c r) (names_same words request asked) steps;
+}

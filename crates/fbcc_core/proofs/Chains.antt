@@ -13,11 +13,13 @@ use Rattle.glsk_keys.specs.declared.model.Keys.{Keys}
 use Rattle.rows_document.specs.declared.reader.RowsDocument.{RowsDocument}
 use Rattle.fb_certificate.specs.declared.types.Inputs.{Inputs}
 use Rattle.fbcc_core.specs.Commands.{judges, rows_work, nets, net_work, puts_together, domain_inputs, computes, domain_work}
+use Rattle.fbcc_core.specs.declared.paper.Paper.{Paper}
 use Rattle.fbcc_core.specs.declared.work.Work.{Work}
 use Rattle.fbcc_core.specs.Reading.{reads_rows, IsGiven, IsUnread, IsLonger, fetched, tree_read, reads_tree, grid_read, reads_grid, crac_read, reads_crac, settings_read, reads_settings, keys_read, reads_keys, reductions_read, reads_reductions}
 use Rattle.fbcc_core.specs.Seen.{ShelfSeen, shelf_seen}
 use Rattle.fbcc_core.specs.Statuses.{limit}
 use Rattle.fbcc_core.specs.Steps.{Step, after}
+use Rattle.fbcc_core.specs.Words.{Names}
 use Rattle.fbcc_core.specs.declared.answer.Document.{Document}
 use Rattle.fbcc_core.specs.declared.answer.Document.TheVariants as document
 use Rattle.fbcc_core.specs.declared.answer.Fault.{Fault}
@@ -30,71 +32,71 @@ joined first next a (Ok b) f n = (a, f, n)
 joined first next a (Err fault) f n = inr (a, f, n)
 
 -- the same, document by document and command by command
-module _ (words : List (List ℕ)) (shelf : ShelfSeen) where
-  pub grid_joined : (bytes : List ℕ) (r : Result Grid Fault) → fetched words shelf document.Grid (Ok bytes) → reads_grid bytes r → grid_read words shelf r
-  grid_joined bytes r = joined (fetched words shelf document.Grid) reads_grid bytes r
+module _ (names : Names) (shelf : ShelfSeen) where
+  pub grid_joined : (bytes : List ℕ) (r : Result Grid Fault) → fetched names shelf document.Grid (Ok bytes) → reads_grid bytes r → grid_read names shelf r
+  grid_joined bytes r = joined (fetched names shelf document.Grid) reads_grid bytes r
 
-  pub crac_joined : (grid : Grid) (tree : Data) (r : Result Crac Fault) → tree_read words shelf document.Crac (Ok tree) → reads_crac grid tree r → crac_read words shelf grid r
-  crac_joined grid tree r = joined (tree_read words shelf document.Crac) (reads_crac grid) tree r
+  pub crac_joined : (grid : Grid) (tree : Data) (r : Result Crac Fault) → tree_read names shelf document.Crac (Ok tree) → reads_crac grid tree r → crac_read names shelf grid r
+  crac_joined grid tree r = joined (tree_read names shelf document.Crac) (reads_crac grid) tree r
 
-  pub settings_joined : (grid : Grid) (tree : Data) (r : Result Settings Fault) → tree_read words shelf document.Settings (Ok tree) → reads_settings grid tree r → settings_read words shelf grid r
-  settings_joined grid tree r = joined (tree_read words shelf document.Settings) (reads_settings grid) tree r
+  pub settings_joined : (grid : Grid) (tree : Data) (r : Result Settings Fault) → tree_read names shelf document.Settings (Ok tree) → reads_settings grid tree r → settings_read names shelf grid r
+  settings_joined grid tree r = joined (tree_read names shelf document.Settings) (reads_settings grid) tree r
 
-  pub keys_joined : (grid : Grid) (settings : Settings) (tree : Data) (r : Result Keys Fault) → tree_read words shelf document.Glsk (Ok tree) → reads_keys grid settings tree r → keys_read words shelf grid settings r
-  keys_joined grid settings tree r = joined (tree_read words shelf document.Glsk) (reads_keys grid settings) tree r
+  pub keys_joined : (grid : Grid) (settings : Settings) (tree : Data) (r : Result Keys Fault) → tree_read names shelf document.Glsk (Ok tree) → reads_keys grid settings tree r → keys_read names shelf grid settings r
+  keys_joined grid settings tree r = joined (tree_read names shelf document.Glsk) (reads_keys grid settings) tree r
 
-  pub reductions_joined : (crac : Crac) (bytes : List ℕ) (r : Result (List Reduction) Fault) → fetched words shelf document.Reductions (Ok bytes) → reads_reductions crac bytes r → reductions_read words shelf crac r
-  reductions_joined crac bytes r f n = inr (joined (fetched words shelf document.Reductions) (reads_reductions crac) bytes r f n)
+  pub reductions_joined : (crac : Crac) (bytes : List ℕ) (r : Result (List Reduction) Fault) → fetched names shelf document.Reductions (Ok bytes) → reads_reductions crac bytes r → reductions_read names shelf crac r
+  reductions_joined crac bytes r f n = inr (joined (fetched names shelf document.Reductions) (reads_reductions crac) bytes r f n)
 
-  pub rows_joined : (bytes : List ℕ) (d : RowsDocument) (r : Result Work Fault) → fetched words shelf document.Rows (Ok bytes) → reads_rows bytes (Ok d) → judges d r → rows_work words shelf r
-  rows_joined bytes d r f m n = joined (after (fetched words shelf document.Rows) reads_rows) judges d r (bytes, f, m) n
+  pub rows_joined : (bytes : List ℕ) (d : RowsDocument) (r : Result Work Fault) → fetched names shelf document.Rows (Ok bytes) → reads_rows bytes (Ok d) → judges d r → rows_work names shelf r
+  rows_joined bytes d r f m n = joined (after (fetched names shelf document.Rows) reads_rows) judges d r (bytes, f, m) n
 
-  pub net_joined : (grid : Grid) (r : Result Work Fault) → grid_read words shelf (Ok grid) → nets grid r → net_work words shelf r
-  net_joined grid r = joined (grid_read words shelf) nets grid r
+  pub net_joined : (grid : Grid) (r : Result Work Fault) → grid_read names shelf (Ok grid) → nets grid r → net_work names shelf r
+  net_joined grid r = joined (grid_read names shelf) nets grid r
 
-  pub domain_joined : (inputs : Inputs) (r : Result Work Fault) → domain_inputs words shelf (Ok inputs) → computes inputs r → domain_work words shelf r
-  domain_joined inputs r = joined (domain_inputs words shelf) computes inputs r
+  pub domain_joined : (paper : Paper) (inputs : Inputs) (r : Result Work Fault) → domain_inputs names shelf (Ok inputs) → computes paper inputs r → domain_work paper names shelf r
+  domain_joined paper inputs r = joined (domain_inputs names shelf) (computes paper) inputs r
 
   -- the documents of a domain one after another, and then the states
   abbrev pub past_keys : Grid → Crac → Settings → Keys → Step Inputs
-  past_keys grid crac settings keys = after (reductions_read words shelf crac) (λ reductions. puts_together grid crac settings keys reductions)
+  past_keys grid crac settings keys = after (reductions_read names shelf crac) (λ reductions. puts_together grid crac settings keys reductions)
 
   abbrev pub past_settings : Grid → Crac → Settings → Step Inputs
-  past_settings grid crac settings = after (keys_read words shelf grid settings) (past_keys grid crac settings)
+  past_settings grid crac settings = after (keys_read names shelf grid settings) (past_keys grid crac settings)
 
   abbrev pub past_crac : Grid → Crac → Step Inputs
-  past_crac grid crac = after (settings_read words shelf grid) (past_settings grid crac)
+  past_crac grid crac = after (settings_read names shelf grid) (past_settings grid crac)
 
   abbrev pub past_grid : Grid → Step Inputs
-  past_grid grid = after (crac_read words shelf grid) (past_crac grid)
+  past_grid grid = after (crac_read names shelf grid) (past_crac grid)
 
   pub inputs_joined : (grid : Grid) (crac : Crac) (settings : Settings) (keys : Keys) (reductions : List Reduction) (r : Result Inputs Fault)
-      → grid_read words shelf (Ok grid) → crac_read words shelf grid (Ok crac) → settings_read words shelf grid (Ok settings) → keys_read words shelf grid settings (Ok keys)
-      → reductions_read words shelf crac (Ok reductions) → puts_together grid crac settings keys reductions r → domain_inputs words shelf r
+      → grid_read names shelf (Ok grid) → crac_read names shelf grid (Ok crac) → settings_read names shelf grid (Ok settings) → keys_read names shelf grid settings (Ok keys)
+      → reductions_read names shelf crac (Ok reductions) → puts_together grid crac settings keys reductions r → domain_inputs names shelf r
   inputs_joined grid crac settings keys reductions r g c s k q p =
-      joined (grid_read words shelf) past_grid grid r g
-      (joined (crac_read words shelf grid) (past_crac grid) crac r c
-      (joined (settings_read words shelf grid) (past_settings grid crac) settings r s
-      (joined (keys_read words shelf grid settings) (past_keys grid crac settings) keys r k
-      (joined (reductions_read words shelf crac) (puts_together grid crac settings keys) reductions r q p))))
+      joined (grid_read names shelf) past_grid grid r g
+      (joined (crac_read names shelf grid) (past_crac grid) crac r c
+      (joined (settings_read names shelf grid) (past_settings grid crac) settings r s
+      (joined (keys_read names shelf grid settings) (past_keys grid crac settings) keys r k
+      (joined (reductions_read names shelf crac) (puts_together grid crac settings keys) reductions r q p))))
 
   -- a document that is refused ends the chain
-  pub crac_refused : (grid : Grid) (fault : Fault) → grid_read words shelf (Ok grid) → crac_read words shelf grid (Err fault) → domain_inputs words shelf (Err fault)
+  pub crac_refused : (grid : Grid) (fault : Fault) → grid_read names shelf (Ok grid) → crac_read names shelf grid (Err fault) → domain_inputs names shelf (Err fault)
   crac_refused grid fault g e = inr (grid, g, inl e)
 
-  pub settings_refused : (grid : Grid) (crac : Crac) (fault : Fault) → grid_read words shelf (Ok grid) → crac_read words shelf grid (Ok crac) → settings_read words shelf grid (Err fault) → domain_inputs words shelf (Err fault)
+  pub settings_refused : (grid : Grid) (crac : Crac) (fault : Fault) → grid_read names shelf (Ok grid) → crac_read names shelf grid (Ok crac) → settings_read names shelf grid (Err fault) → domain_inputs names shelf (Err fault)
   settings_refused grid crac fault g c e = inr (grid, g, inr (crac, c, inl e))
 
-  pub keys_refused : (grid : Grid) (crac : Crac) (settings : Settings) (fault : Fault) → grid_read words shelf (Ok grid) → crac_read words shelf grid (Ok crac) → settings_read words shelf grid (Ok settings)
-      → keys_read words shelf grid settings (Err fault) → domain_inputs words shelf (Err fault)
+  pub keys_refused : (grid : Grid) (crac : Crac) (settings : Settings) (fault : Fault) → grid_read names shelf (Ok grid) → crac_read names shelf grid (Ok crac) → settings_read names shelf grid (Ok settings)
+      → keys_read names shelf grid settings (Err fault) → domain_inputs names shelf (Err fault)
   keys_refused grid crac settings fault g c s e = inr (grid, g, inr (crac, c, inr (settings, s, inl e)))
 
-  pub reductions_refused : (grid : Grid) (crac : Crac) (settings : Settings) (keys : Keys) (fault : Fault) → grid_read words shelf (Ok grid) → crac_read words shelf grid (Ok crac) → settings_read words shelf grid (Ok settings)
-      → keys_read words shelf grid settings (Ok keys) → reductions_read words shelf crac (Err fault) → domain_inputs words shelf (Err fault)
+  pub reductions_refused : (grid : Grid) (crac : Crac) (settings : Settings) (keys : Keys) (fault : Fault) → grid_read names shelf (Ok grid) → crac_read names shelf grid (Ok crac) → settings_read names shelf grid (Ok settings)
+      → keys_read names shelf grid settings (Ok keys) → reductions_read names shelf crac (Err fault) → domain_inputs names shelf (Err fault)
   reductions_refused grid crac settings keys fault g c s k e = inr (grid, g, inr (crac, c, inr (settings, s, inr (keys, k, inl e))))
 
-  pub inputs_refused : (fault : Fault) → domain_inputs words shelf (Err fault) → domain_work words shelf (Err fault)
-  inputs_refused fault e = inl e
+  pub inputs_refused : (paper : Paper) (fault : Fault) → domain_inputs names shelf (Err fault) → domain_work paper names shelf (Err fault)
+  inputs_refused paper fault e = inl e
 
 -- the first step is carried over to another
 pub carried_ok : {A B : Type 0} (first other : Step A) (next : A → Step B) → ((a : A) → first (Ok a) → other (Ok a)) → (b : B) → after first next (Ok b) → after other next (Ok b)
@@ -150,8 +152,8 @@ last_part tells held faults failed first then last k =
 
 -- ---- Steps over a part
 
-module _ (words : List (List ℕ)) (part whole : ShelfSeen) (is : IsPart part whole) where
-  given_part : (d : Document) (bytes : List ℕ) → IsGiven words part d bytes → IsGiven words whole d bytes
+module _ (names : Names) (part whole : ShelfSeen) (is : IsPart part whole) where
+  given_part : (d : Document) (bytes : List ℕ) → IsGiven names part d bytes → IsGiven names whole d bytes
   given_part d bytes g = record {
     name = g.name;
     named = g.named;
@@ -159,28 +161,28 @@ module _ (words : List (List ℕ)) (part whole : ShelfSeen) (is : IsPart part wh
     within = g.within;
   }
 
-  pub tree_part : (d : Document) (tree : Data) → tree_read words part d (Ok tree) → tree_read words whole d (Ok tree)
-  tree_part d tree = carried_ok (fetched words part d) (fetched words whole d) (reads_tree d) (given_part d) tree
+  pub tree_part : (d : Document) (tree : Data) → tree_read names part d (Ok tree) → tree_read names whole d (Ok tree)
+  tree_part d tree = carried_ok (fetched names part d) (fetched names whole d) (reads_tree d) (given_part d) tree
 
-  pub grid_part : (grid : Grid) → grid_read words part (Ok grid) → grid_read words whole (Ok grid)
-  grid_part grid = carried_ok (fetched words part document.Grid) (fetched words whole document.Grid) reads_grid (given_part document.Grid) grid
+  pub grid_part : (grid : Grid) → grid_read names part (Ok grid) → grid_read names whole (Ok grid)
+  grid_part grid = carried_ok (fetched names part document.Grid) (fetched names whole document.Grid) reads_grid (given_part document.Grid) grid
 
-  pub crac_part : (grid : Grid) (crac : Crac) → crac_read words part grid (Ok crac) → crac_read words whole grid (Ok crac)
-  crac_part grid crac = carried_ok (tree_read words part document.Crac) (tree_read words whole document.Crac) (reads_crac grid) (tree_part document.Crac) crac
+  pub crac_part : (grid : Grid) (crac : Crac) → crac_read names part grid (Ok crac) → crac_read names whole grid (Ok crac)
+  crac_part grid crac = carried_ok (tree_read names part document.Crac) (tree_read names whole document.Crac) (reads_crac grid) (tree_part document.Crac) crac
 
-  pub settings_part : (grid : Grid) (settings : Settings) → settings_read words part grid (Ok settings) → settings_read words whole grid (Ok settings)
-  settings_part grid settings = carried_ok (tree_read words part document.Settings) (tree_read words whole document.Settings) (reads_settings grid) (tree_part document.Settings) settings
+  pub settings_part : (grid : Grid) (settings : Settings) → settings_read names part grid (Ok settings) → settings_read names whole grid (Ok settings)
+  settings_part grid settings = carried_ok (tree_read names part document.Settings) (tree_read names whole document.Settings) (reads_settings grid) (tree_part document.Settings) settings
 
-  pub keys_part : (grid : Grid) (settings : Settings) (keys : Keys) → keys_read words part grid settings (Ok keys) → keys_read words whole grid settings (Ok keys)
-  keys_part grid settings keys = carried_ok (tree_read words part document.Glsk) (tree_read words whole document.Glsk) (reads_keys grid settings) (tree_part document.Glsk) keys
+  pub keys_part : (grid : Grid) (settings : Settings) (keys : Keys) → keys_read names part grid settings (Ok keys) → keys_read names whole grid settings (Ok keys)
+  keys_part grid settings keys = carried_ok (tree_read names part document.Glsk) (tree_read names whole document.Glsk) (reads_keys grid settings) (tree_part document.Glsk) keys
 
-  pub reductions_part : (crac : Crac) (reductions : List Reduction) → reductions_read words part crac (Ok reductions) → reductions_read words whole crac (Ok reductions)
+  pub reductions_part : (crac : Crac) (reductions : List Reduction) → reductions_read names part crac (Ok reductions) → reductions_read names whole crac (Ok reductions)
   reductions_part crac reductions (inl h) = inl h
   reductions_part crac reductions (inr h) =
-      inr (carried_ok (fetched words part document.Reductions) (fetched words whole document.Reductions) (reads_reductions crac) (given_part document.Reductions) reductions h)
+      inr (carried_ok (fetched names part document.Reductions) (fetched names whole document.Reductions) (reads_reductions crac) (given_part document.Reductions) reductions h)
 
-module _ (words : List (List ℕ)) (part whole : ShelfSeen) (ends : IsEnd part whole) where
-  unread_end : (d : Document) (fault : Fault) → IsUnread words part d fault → IsUnread words whole d fault
+module _ (names : Names) (part whole : ShelfSeen) (ends : IsEnd part whole) where
+  unread_end : (d : Document) (fault : Fault) → IsUnread names part d fault → IsUnread names whole d fault
   unread_end d fault u = record {
     is = u.is;
     name = u.name;
@@ -189,7 +191,7 @@ module _ (words : List (List ℕ)) (part whole : ShelfSeen) (ends : IsEnd part w
     told = λ t. sym ends.last_failed ∙ u.told (subst IsTrue (sym ends.is_part.tells) t);
   }
 
-  longer_end : (d : Document) (fault : Fault) → IsLonger words part d fault → IsLonger words whole d fault
+  longer_end : (d : Document) (fault : Fault) → IsLonger names part d fault → IsLonger names whole d fault
   longer_end d fault l = record {
     is = l.is;
     name = l.name;
@@ -197,29 +199,29 @@ module _ (words : List (List ℕ)) (part whole : ShelfSeen) (ends : IsEnd part w
     told = λ t. subst (λ (held : Documents). HasMoreThan held l.name limit) ends.is_part.documents (l.told (subst IsTrue (sym ends.is_part.tells) t));
   }
 
-  fetched_end : (d : Document) (fault : Fault) → fetched words part d (Err fault) → fetched words whole d (Err fault)
+  fetched_end : (d : Document) (fault : Fault) → fetched names part d (Err fault) → fetched names whole d (Err fault)
   fetched_end d fault (inl (inl u)) = inl (inl (unread_end d fault u))
   fetched_end d fault (inl (inr l)) = inl (inr (longer_end d fault l))
   fetched_end d fault (inr m) = inr m
 
-  tree_end : (d : Document) (fault : Fault) → tree_read words part d (Err fault) → tree_read words whole d (Err fault)
-  tree_end d fault = carried_err (fetched words part d) (fetched words whole d) (reads_tree d) (given_part words part whole ends.is_part d) (fetched_end d) fault
+  tree_end : (d : Document) (fault : Fault) → tree_read names part d (Err fault) → tree_read names whole d (Err fault)
+  tree_end d fault = carried_err (fetched names part d) (fetched names whole d) (reads_tree d) (given_part names part whole ends.is_part d) (fetched_end d) fault
 
-  pub crac_end : (grid : Grid) (fault : Fault) → crac_read words part grid (Err fault) → crac_read words whole grid (Err fault)
-  crac_end grid fault = carried_err (tree_read words part document.Crac) (tree_read words whole document.Crac) (reads_crac grid) (tree_part words part whole ends.is_part document.Crac) (tree_end document.Crac) fault
+  pub crac_end : (grid : Grid) (fault : Fault) → crac_read names part grid (Err fault) → crac_read names whole grid (Err fault)
+  crac_end grid fault = carried_err (tree_read names part document.Crac) (tree_read names whole document.Crac) (reads_crac grid) (tree_part names part whole ends.is_part document.Crac) (tree_end document.Crac) fault
 
-  pub settings_end : (grid : Grid) (fault : Fault) → settings_read words part grid (Err fault) → settings_read words whole grid (Err fault)
+  pub settings_end : (grid : Grid) (fault : Fault) → settings_read names part grid (Err fault) → settings_read names whole grid (Err fault)
   settings_end grid fault =
-      carried_err (tree_read words part document.Settings) (tree_read words whole document.Settings) (reads_settings grid) (tree_part words part whole ends.is_part document.Settings) (tree_end document.Settings) fault
+      carried_err (tree_read names part document.Settings) (tree_read names whole document.Settings) (reads_settings grid) (tree_part names part whole ends.is_part document.Settings) (tree_end document.Settings) fault
 
-  pub keys_end : (grid : Grid) (settings : Settings) (fault : Fault) → keys_read words part grid settings (Err fault) → keys_read words whole grid settings (Err fault)
+  pub keys_end : (grid : Grid) (settings : Settings) (fault : Fault) → keys_read names part grid settings (Err fault) → keys_read names whole grid settings (Err fault)
   keys_end grid settings fault =
-      carried_err (tree_read words part document.Glsk) (tree_read words whole document.Glsk) (reads_keys grid settings) (tree_part words part whole ends.is_part document.Glsk) (tree_end document.Glsk) fault
+      carried_err (tree_read names part document.Glsk) (tree_read names whole document.Glsk) (reads_keys grid settings) (tree_part names part whole ends.is_part document.Glsk) (tree_end document.Glsk) fault
 
   no_fault : {A : Type 0} (a : A) (fault : Fault) → (let r : Result A Fault = Err fault in r ≡ Ok a) → ⊥
   no_fault a fault e = cc
 
-  pub reductions_end : (crac : Crac) (fault : Fault) → reductions_read words part crac (Err fault) → reductions_read words whole crac (Err fault)
+  pub reductions_end : (crac : Crac) (fault : Fault) → reductions_read names part crac (Err fault) → reductions_read names whole crac (Err fault)
   reductions_end crac fault (inl h) = absurd (no_fault _ fault h.1)
   reductions_end crac fault (inr h) =
-      inr (carried_err (fetched words part document.Reductions) (fetched words whole document.Reductions) (reads_reductions crac) (given_part words part whole ends.is_part document.Reductions) (fetched_end document.Reductions) fault h)
+      inr (carried_err (fetched names part document.Reductions) (fetched names whole document.Reductions) (reads_reductions crac) (given_part names part whole ends.is_part document.Reductions) (fetched_end document.Reductions) fault h)

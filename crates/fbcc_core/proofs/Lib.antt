@@ -3,7 +3,6 @@ pub mod Answered
 pub mod Asking
 pub mod Chains
 pub mod GridSame
-pub mod NeededNames
 pub mod OneAnswer
-pub mod OptionLaws
 pub mod OutputPieces
+pub mod PutCauses

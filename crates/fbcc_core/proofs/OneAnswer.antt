@@ -35,12 +35,14 @@ use Rattle.fbcc_core.specs.Reading.{IsGiven, IsUnread, IsLonger, fetched, reads_
 use Rattle.fbcc_core.specs.Seen.{ShelfSeen, ShelfFailed}
 use Rattle.fbcc_core.specs.Statuses.{limit}
 use Rattle.fbcc_core.specs.Steps.{after, IsMemory}
-use Rattle.fbcc_core.specs.Words.{name_given}
+use Rattle.fbcc_core.specs.Words.{Names}
 use Rattle.fbcc_core.specs.declared.answer.Document.{Document}
 use Rattle.fbcc_core.specs.declared.answer.Document.TheVariants as document
 use Rattle.fbcc_core.specs.declared.answer.Fault.{Fault}
 use Rattle.fbcc_core.specs.declared.answer.Fault.TheVariants.{GridFault, CracFault, SettingsFault, KeyFault, ReductionFault, CertificateFault}
 use Rattle.fbcc_core.specs.declared.request.Command.{Command}
+use Rattle.fbcc_core.specs.declared.paper.Paper.{Paper}
+use Rattle.fbcc_core.specs.declared.paper.Paper.TheVariants.{Table, Evidence, Report}
 use Rattle.fbcc_core.specs.declared.request.Command.TheVariants as command
 use Rattle.fbcc_core.specs.declared.work.Work.{Work}
 use Rattle.fbcc_core.proofs.Agreement.{Agrees, after_agrees, step_agrees, from_same}
@@ -61,32 +63,32 @@ more_of : (o : Option (List ℕ)) (bytes : List ℕ) (n : ℕ) → o ≡ Some by
 more_of None bytes n e h = absurd h
 more_of (Some b) bytes n e h = subst (λ (x : List ℕ). n < length x) (same_Some b bytes e) h
 
-module _ (words : List (List ℕ)) (shelf : ShelfSeen) (told : IsTrue shelf.tells) (fine : ¬ ShelfFailed shelf) where
-  given_same : (d : Document) (a b : List ℕ) → IsGiven words shelf d a → IsGiven words shelf d b → a ≡ b
+module _ (names : Names) (shelf : ShelfSeen) (told : IsTrue shelf.tells) (fine : ¬ ShelfFailed shelf) where
+  given_same : (d : Document) (a b : List ℕ) → IsGiven names shelf d a → IsGiven names shelf d b → a ≡ b
   given_same d a b g h =
-      let names : g.name ≡ h.name = same_Some g.name h.name (sym g.named ∙ h.named) in
-      same_Some a b (sym (g.told told) ∙ ap (get shelf.documents) names ∙ h.told told)
+      let same_name : g.name ≡ h.name = same_Some g.name h.name (sym g.named ∙ h.named) in
+      same_Some a b (sym (g.told told) ∙ ap (get shelf.documents) same_name ∙ h.told told)
 
-  not_longer : (d : Document) (a : List ℕ) (fault : Fault) → IsGiven words shelf d a → IsLonger words shelf d fault → ⊥
+  not_longer : (d : Document) (a : List ℕ) (fault : Fault) → IsGiven names shelf d a → IsLonger names shelf d fault → ⊥
   not_longer d a fault g l =
-      let names : l.name ≡ g.name = same_Some l.name g.name (sym l.named ∙ g.named) in
-      let held : get shelf.documents l.name ≡ Some a = ap (get shelf.documents) names ∙ g.told told in
+      let same_name : l.name ≡ g.name = same_Some l.name g.name (sym l.named ∙ g.named) in
+      let held : get shelf.documents l.name ≡ Some a = ap (get shelf.documents) same_name ∙ g.told told in
       let more : limit < length a = more_of (get shelf.documents l.name) a limit held (l.told told) in
       let within : length a ≤ limit = g.within in
       omega arith
 
-  not_refused : (d : Document) (a : List ℕ) (fault : Fault) → IsGiven words shelf d a → IsUnread words shelf d fault ⊎ IsLonger words shelf d fault → ⊥
+  not_refused : (d : Document) (a : List ℕ) (fault : Fault) → IsGiven names shelf d a → IsUnread names shelf d fault ⊎ IsLonger names shelf d fault → ⊥
   not_refused d a fault g (inl u) = fine u.failed
   not_refused d a fault g (inr l) = not_longer d a fault g l
 
-  same_refusal : (d : Document) (f g : Fault) → IsUnread words shelf d f ⊎ IsLonger words shelf d f → IsUnread words shelf d g ⊎ IsLonger words shelf d g → f ≡ g
+  same_refusal : (d : Document) (f g : Fault) → IsUnread names shelf d f ⊎ IsLonger names shelf d f → IsUnread names shelf d g ⊎ IsLonger names shelf d g → f ≡ g
   same_refusal d f g (inl u) t = absurd (fine u.failed)
   same_refusal d f g (inr l) (inl u) = absurd (fine u.failed)
   same_refusal d f g (inr l) (inr m) = l.is ∙ sym m.is
 
-  fetched_once : (d : Document) → Agrees Same (fetched words shelf d) (fetched words shelf d)
-  fetched_once d = step_agrees Same (IsGiven words shelf d) (IsGiven words shelf d)
-      (λ fault. IsUnread words shelf d fault ⊎ IsLonger words shelf d fault) (λ fault. IsUnread words shelf d fault ⊎ IsLonger words shelf d fault)
+  fetched_once : (d : Document) → Agrees Same (fetched names shelf d) (fetched names shelf d)
+  fetched_once d = step_agrees Same (IsGiven names shelf d) (IsGiven names shelf d)
+      (λ fault. IsUnread names shelf d fault ⊎ IsLonger names shelf d fault) (λ fault. IsUnread names shelf d fault ⊎ IsLonger names shelf d fault)
       (given_same d) (λ a fault g t. absurd (not_refused d a fault g t)) (λ fault b s h. absurd (not_refused d b fault h s)) (λ f g s t. inl (same_refusal d f g s t))
 
 -- ---- What is understood
@@ -187,8 +189,8 @@ judges_once d = step_agrees JudgeSame _ _ _ _ (judged_same d) (λ a f s t. absur
 nets_once : (grid : Grid) → Agrees JudgeSame (nets grid) (nets grid)
 nets_once grid = step_agrees JudgeSame _ _ _ _ (λ v w s t. s.verdict ∙ sym t.verdict) (λ a f s t. absurd t) (λ f b s t. absurd s) (λ f g s t. absurd s)
 
-computes_once : (i j : Inputs) → Agrees JudgeSame (computes i) (computes j)
-computes_once i j = step_agrees JudgeSame _ _ _ _ (λ v w s t. s.verdict ∙ sym t.verdict) (λ a f s t. absurd t) (λ f b s t. absurd s) (λ f g s t. absurd s)
+computes_once : (paper : Paper) (i j : Inputs) → Agrees JudgeSame (computes paper i) (computes paper j)
+computes_once paper i j = step_agrees JudgeSame _ _ _ _ (λ v w s t. s.verdict ∙ sym t.verdict) (λ a f s t. absurd t) (λ f b s t. absurd s) (λ f g s t. absurd s)
 
 -- ---- Grid states
 
@@ -228,56 +230,56 @@ module _ (grid : Grid) (crac : Crac) (s t : Settings) (e : SaySame s t) (keys : 
 
 -- ---- Whole commands
 
-module _ (words : List (List ℕ)) (shelf : ShelfSeen) (told : IsTrue shelf.tells) (fine : ¬ ShelfFailed shelf) where
-  grid_once : Agrees Same (grid_read words shelf) (grid_read words shelf)
-  grid_once = after_agrees Same Same (fetched words shelf document.Grid) (fetched words shelf document.Grid) reads_grid reads_grid
-      (fetched_once words shelf told fine document.Grid) (from_same Same reads_grid reads_grid_once)
+module _ (names : Names) (shelf : ShelfSeen) (told : IsTrue shelf.tells) (fine : ¬ ShelfFailed shelf) where
+  grid_once : Agrees Same (grid_read names shelf) (grid_read names shelf)
+  grid_once = after_agrees Same Same (fetched names shelf document.Grid) (fetched names shelf document.Grid) reads_grid reads_grid
+      (fetched_once names shelf told fine document.Grid) (from_same Same reads_grid reads_grid_once)
 
-  rows_once : Agrees Same (after (fetched words shelf document.Rows) reads_rows) (after (fetched words shelf document.Rows) reads_rows)
-  rows_once = after_agrees Same Same (fetched words shelf document.Rows) (fetched words shelf document.Rows) reads_rows reads_rows
-      (fetched_once words shelf told fine document.Rows) (from_same Same reads_rows reads_rows_once)
+  rows_once : Agrees Same (after (fetched names shelf document.Rows) reads_rows) (after (fetched names shelf document.Rows) reads_rows)
+  rows_once = after_agrees Same Same (fetched names shelf document.Rows) (fetched names shelf document.Rows) reads_rows reads_rows
+      (fetched_once names shelf told fine document.Rows) (from_same Same reads_rows reads_rows_once)
 
-  tree_once : (d : Document) → Agrees Same (tree_read words shelf d) (tree_read words shelf d)
-  tree_once d = after_agrees Same Same (fetched words shelf d) (fetched words shelf d) (reads_tree d) (reads_tree d)
-      (fetched_once words shelf told fine d) (from_same Same (reads_tree d) (reads_tree_once d))
+  tree_once : (d : Document) → Agrees Same (tree_read names shelf d) (tree_read names shelf d)
+  tree_once d = after_agrees Same Same (fetched names shelf d) (fetched names shelf d) (reads_tree d) (reads_tree d)
+      (fetched_once names shelf told fine d) (from_same Same (reads_tree d) (reads_tree_once d))
 
-  crac_once : (grid : Grid) → Agrees Same (crac_read words shelf grid) (crac_read words shelf grid)
-  crac_once grid = after_agrees Same Same (tree_read words shelf document.Crac) (tree_read words shelf document.Crac) (reads_crac grid) (reads_crac grid)
+  crac_once : (grid : Grid) → Agrees Same (crac_read names shelf grid) (crac_read names shelf grid)
+  crac_once grid = after_agrees Same Same (tree_read names shelf document.Crac) (tree_read names shelf document.Crac) (reads_crac grid) (reads_crac grid)
       (tree_once document.Crac) (from_same Same (reads_crac grid) (reads_crac_once grid))
 
-  settings_once : (grid : Grid) → Agrees SaySame (settings_read words shelf grid) (settings_read words shelf grid)
-  settings_once grid = after_agrees Same SaySame (tree_read words shelf document.Settings) (tree_read words shelf document.Settings) (reads_settings grid) (reads_settings grid)
+  settings_once : (grid : Grid) → Agrees SaySame (settings_read names shelf grid) (settings_read names shelf grid)
+  settings_once grid = after_agrees Same SaySame (tree_read names shelf document.Settings) (tree_read names shelf document.Settings) (reads_settings grid) (reads_settings grid)
       (tree_once document.Settings) (from_same SaySame (reads_settings grid) (reads_settings_once grid))
 
-  keys_once : (grid : Grid) (s t : Settings) → SaySame s t → Agrees Same (keys_read words shelf grid s) (keys_read words shelf grid t)
-  keys_once grid s t e = after_agrees Same Same (tree_read words shelf document.Glsk) (tree_read words shelf document.Glsk) (reads_keys grid s) (reads_keys grid t)
+  keys_once : (grid : Grid) (s t : Settings) → SaySame s t → Agrees Same (keys_read names shelf grid s) (keys_read names shelf grid t)
+  keys_once grid s t e = after_agrees Same Same (tree_read names shelf document.Glsk) (tree_read names shelf document.Glsk) (reads_keys grid s) (reads_keys grid t)
       (tree_once document.Glsk) (λ a b same. subst (λ (x : Data). Agrees Same (reads_keys grid s a) (reads_keys grid t x)) same (reads_keys_once grid s t e a))
 
-  fetched_reductions_once : (crac : Crac) → Agrees Any (after (fetched words shelf document.Reductions) (reads_reductions crac)) (after (fetched words shelf document.Reductions) (reads_reductions crac))
-  fetched_reductions_once crac = after_agrees Same Any (fetched words shelf document.Reductions) (fetched words shelf document.Reductions) (reads_reductions crac) (reads_reductions crac)
-      (fetched_once words shelf told fine document.Reductions) (from_same Any (reads_reductions crac) (reads_reductions_once crac))
+  fetched_reductions_once : (crac : Crac) → Agrees Any (after (fetched names shelf document.Reductions) (reads_reductions crac)) (after (fetched names shelf document.Reductions) (reads_reductions crac))
+  fetched_reductions_once crac = after_agrees Same Any (fetched names shelf document.Reductions) (fetched names shelf document.Reductions) (reads_reductions crac) (reads_reductions crac)
+      (fetched_once names shelf told fine document.Reductions) (from_same Any (reads_reductions crac) (reads_reductions_once crac))
 
-  no_name : (name : List ℕ) → name_given words document.Reductions ≡ None → name_given words document.Reductions ≡ Some name → ⊥
+  no_name : (name : List ℕ) → names document.Reductions ≡ None → names document.Reductions ≡ Some name → ⊥
   no_name name none some = cc
 
   -- a name that is not given is not fetched
-  unnamed : (crac : Crac) (f : Fault) → name_given words document.Reductions ≡ None → after (fetched words shelf document.Reductions) (reads_reductions crac) (Err f) → IsMemory f
+  unnamed : (crac : Crac) (f : Fault) → names document.Reductions ≡ None → after (fetched names shelf document.Reductions) (reads_reductions crac) (Err f) → IsMemory f
   unnamed crac f none (inl (inl (inl u))) = absurd (no_name u.name none u.named)
   unnamed crac f none (inl (inl (inr l))) = absurd (no_name l.name none l.named)
   unnamed crac f none (inl (inr m)) = m
   unnamed crac f none (inr h) = absurd (no_name h.1.name none h.1.named)
 
-  given_or_memory : (crac : Crac) (a : List Reduction) (g : Fault) → reductions_read words shelf crac (Ok a) → reductions_read words shelf crac (Err g) → IsMemory g
+  given_or_memory : (crac : Crac) (a : List Reduction) (g : Fault) → reductions_read names shelf crac (Ok a) → reductions_read names shelf crac (Err g) → IsMemory g
   given_or_memory crac a g s (inl t) = absurd (no_both (Err g) _ g t.1 refl)
   given_or_memory crac a g (inl s) (inr t) = unnamed crac g s.0 t
   given_or_memory crac a g (inr s) (inr t) = (fetched_reductions_once crac).given a g s t
 
-  reductions_refused : (crac : Crac) (f g : Fault) → reductions_read words shelf crac (Err f) → reductions_read words shelf crac (Err g) → (f ≡ g) ⊎ (IsMemory f ⊎ IsMemory g)
+  reductions_refused : (crac : Crac) (f g : Fault) → reductions_read names shelf crac (Err f) → reductions_read names shelf crac (Err g) → (f ≡ g) ⊎ (IsMemory f ⊎ IsMemory g)
   reductions_refused crac f g (inl s) t = absurd (no_both (Err f) _ f s.1 refl)
   reductions_refused crac f g (inr s) (inl t) = absurd (no_both (Err g) _ g t.1 refl)
   reductions_refused crac f g (inr s) (inr t) = (fetched_reductions_once crac).neither f g s t
 
-  reductions_once : (crac : Crac) → Agrees Any (reductions_read words shelf crac) (reductions_read words shelf crac)
+  reductions_once : (crac : Crac) → Agrees Any (reductions_read names shelf crac) (reductions_read names shelf crac)
   reductions_once crac = record {
     both = λ a b s t. tt;
     given = given_or_memory crac;
@@ -285,36 +287,39 @@ module _ (words : List (List ℕ)) (shelf : ShelfSeen) (told : IsTrue shelf.tell
     neither = reductions_refused crac;
   }
 
-  past_keys_once : (grid : Grid) (crac : Crac) (s t : Settings) → SaySame s t → (keys : Keys) → Agrees Any (past_keys words shelf grid crac s keys) (past_keys words shelf grid crac t keys)
-  past_keys_once grid crac s t e keys = after_agrees Any Any (reductions_read words shelf crac) (reductions_read words shelf crac) (puts_together grid crac s keys) (puts_together grid crac t keys)
+  past_keys_once : (grid : Grid) (crac : Crac) (s t : Settings) → SaySame s t → (keys : Keys) → Agrees Any (past_keys names shelf grid crac s keys) (past_keys names shelf grid crac t keys)
+  past_keys_once grid crac s t e keys = after_agrees Any Any (reductions_read names shelf crac) (reductions_read names shelf crac) (puts_together grid crac s keys) (puts_together grid crac t keys)
       (reductions_once crac) (λ q r _. puts_once grid crac s t e keys q r)
 
-  past_settings_once : (grid : Grid) (crac : Crac) (s t : Settings) → SaySame s t → Agrees Any (past_settings words shelf grid crac s) (past_settings words shelf grid crac t)
-  past_settings_once grid crac s t e = after_agrees Same Any (keys_read words shelf grid s) (keys_read words shelf grid t) (past_keys words shelf grid crac s) (past_keys words shelf grid crac t)
-      (keys_once grid s t e) (λ a b same. subst (λ (x : Keys). Agrees Any (past_keys words shelf grid crac s a) (past_keys words shelf grid crac t x)) same (past_keys_once grid crac s t e a))
+  past_settings_once : (grid : Grid) (crac : Crac) (s t : Settings) → SaySame s t → Agrees Any (past_settings names shelf grid crac s) (past_settings names shelf grid crac t)
+  past_settings_once grid crac s t e = after_agrees Same Any (keys_read names shelf grid s) (keys_read names shelf grid t) (past_keys names shelf grid crac s) (past_keys names shelf grid crac t)
+      (keys_once grid s t e) (λ a b same. subst (λ (x : Keys). Agrees Any (past_keys names shelf grid crac s a) (past_keys names shelf grid crac t x)) same (past_keys_once grid crac s t e a))
 
-  past_crac_once : (grid : Grid) (crac : Crac) → Agrees Any (past_crac words shelf grid crac) (past_crac words shelf grid crac)
-  past_crac_once grid crac = after_agrees SaySame Any (settings_read words shelf grid) (settings_read words shelf grid) (past_settings words shelf grid crac) (past_settings words shelf grid crac)
+  past_crac_once : (grid : Grid) (crac : Crac) → Agrees Any (past_crac names shelf grid crac) (past_crac names shelf grid crac)
+  past_crac_once grid crac = after_agrees SaySame Any (settings_read names shelf grid) (settings_read names shelf grid) (past_settings names shelf grid crac) (past_settings names shelf grid crac)
       (settings_once grid) (past_settings_once grid crac)
 
-  past_grid_once : (grid : Grid) → Agrees Any (past_grid words shelf grid) (past_grid words shelf grid)
-  past_grid_once grid = after_agrees Same Any (crac_read words shelf grid) (crac_read words shelf grid) (past_crac words shelf grid) (past_crac words shelf grid)
-      (crac_once grid) (from_same Any (past_crac words shelf grid) (past_crac_once grid))
+  past_grid_once : (grid : Grid) → Agrees Any (past_grid names shelf grid) (past_grid names shelf grid)
+  past_grid_once grid = after_agrees Same Any (crac_read names shelf grid) (crac_read names shelf grid) (past_crac names shelf grid) (past_crac names shelf grid)
+      (crac_once grid) (from_same Any (past_crac names shelf grid) (past_crac_once grid))
 
-  pub inputs_once : Agrees Any (domain_inputs words shelf) (domain_inputs words shelf)
-  inputs_once = after_agrees Same Any (grid_read words shelf) (grid_read words shelf) (past_grid words shelf) (past_grid words shelf) grid_once (from_same Any (past_grid words shelf) past_grid_once)
+  pub inputs_once : Agrees Any (domain_inputs names shelf) (domain_inputs names shelf)
+  inputs_once = after_agrees Same Any (grid_read names shelf) (grid_read names shelf) (past_grid names shelf) (past_grid names shelf) grid_once (from_same Any (past_grid names shelf) past_grid_once)
 
-  domain_once : Agrees JudgeSame (domain_work words shelf) (domain_work words shelf)
-  domain_once = after_agrees Any JudgeSame (domain_inputs words shelf) (domain_inputs words shelf) computes computes inputs_once (λ i j _. computes_once i j)
+  domain_once : (paper : Paper) → Agrees JudgeSame (domain_work paper names shelf) (domain_work paper names shelf)
+  domain_once paper =
+      after_agrees Any JudgeSame (domain_inputs names shelf) (domain_inputs names shelf) (computes paper) (computes paper) inputs_once (λ i j _. computes_once paper i j)
 
-  net_once : Agrees JudgeSame (net_work words shelf) (net_work words shelf)
-  net_once = after_agrees Same JudgeSame (grid_read words shelf) (grid_read words shelf) nets nets grid_once (from_same JudgeSame nets nets_once)
+  net_once : Agrees JudgeSame (net_work names shelf) (net_work names shelf)
+  net_once = after_agrees Same JudgeSame (grid_read names shelf) (grid_read names shelf) nets nets grid_once (from_same JudgeSame nets nets_once)
 
-  judged_once : Agrees JudgeSame (rows_work words shelf) (rows_work words shelf)
-  judged_once = after_agrees Same JudgeSame (after (fetched words shelf document.Rows) reads_rows) (after (fetched words shelf document.Rows) reads_rows) judges judges
+  judged_once : Agrees JudgeSame (rows_work names shelf) (rows_work names shelf)
+  judged_once = after_agrees Same JudgeSame (after (fetched names shelf document.Rows) reads_rows) (after (fetched names shelf document.Rows) reads_rows) judges judges
       rows_once (from_same JudgeSame judges judges_once)
 
-  pub work_once : (c : Command) → Agrees JudgeSame (work_of words shelf c) (work_of words shelf c)
+  pub work_once : (c : Command) → Agrees JudgeSame (work_of names shelf c) (work_of names shelf c)
   work_once command.Rows = judged_once
   work_once command.Net = net_once
-  work_once command.Domain = domain_once
+  work_once command.Domain = domain_once Table
+  work_once command.Certify = domain_once Evidence
+  work_once command.Report = domain_once Report

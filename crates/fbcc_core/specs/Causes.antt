@@ -3,14 +3,15 @@ use Rattle.std.specs.Prelude.{◌≡◌, ◌⊎◌, ℕ, List, ◌++◌, Option,
 use Rattle.fb_base.specs.Pieces.{AppendsPrefix}
 use Rattle.fb_certificate.specs.declared.types.Inputs.{Inputs}
 use Rattle.fbcc_core.specs.Commands.{work_of, domain_inputs}
+use Rattle.fbcc_core.specs.Papers.{command_of}
 use Rattle.fbcc_core.specs.Seen.{ShelfSeen, SinkSeen, ShelfFailed, SinkFailed}
 use Rattle.fbcc_core.specs.Steps.{IsMemory}
 use Rattle.fbcc_core.specs.Texts.{fault_line}
-use Rattle.fbcc_core.specs.Words.{Asks, Accepts}
+use Rattle.fbcc_core.specs.Words.{Asks, Accepts, name_given}
 use Rattle.fbcc_core.specs.declared.answer.Fault.{Fault}
 use Rattle.fbcc_core.specs.declared.answer.Fault.TheVariants.{No, Usage, ReadFault, TooLong, GridFault, JsonFault, CracFault, KeyFault, SettingsFault, ReductionFault, NoSlack, SplitGrid, RangeExceeded, CertificateFault, WriteFault, Memory}
 use Rattle.fbcc_core.specs.declared.request.Command.{Command}
-use Rattle.fbcc_core.specs.declared.request.Command.TheVariants as command
+use Rattle.fbcc_core.specs.declared.paper.Paper.{Paper}
 use Rattle.fbcc_core.specs.declared.work.Work.{Work}
 
 -- ---- What a sink took
@@ -34,7 +35,7 @@ TookPrefix sink text = SinkFailed sink × (IsTrue sink.tells → AppendsPrefix s
 pub record Comes (words : List (List ℕ)) (shelf : ShelfSeen) (result : Result Work Fault) : Type 0 where
   pub command : Command
   pub asked : Asks words command
-  pub steps : work_of words shelf command result
+  pub steps : work_of (name_given words) shelf command result
 
 -- the words are no command with its options; nothing is put
 pub record IsMisused (words : List (List ℕ)) (out : SinkSeen) (answer : Option Fault) : Type 0 where
@@ -96,10 +97,10 @@ Judges words shelf out answer =
     (work : Work) → Comes words shelf (Ok work) → IsTrue shelf.tells → ¬ ShelfFailed shelf → ¬ SinkFailed out
     → (answer ≡ work.verdict) ⊎ IsOutOfMemory answer
 
--- .. and a domain is printed wherever its documents can be read and their states are in order.
+-- .. and a domain is printed, in each of its forms, wherever its documents can be read and their states are in order.
 abbrev pub Completes : List (List ℕ) → ShelfSeen → SinkSeen → Option Fault → Type 0
 Completes words shelf out answer =
-    (inputs : Inputs) → Asks words command.Domain → domain_inputs words shelf (Ok inputs) → IsTrue shelf.tells → ¬ ShelfFailed shelf → ¬ SinkFailed out
+    (paper : Paper) → (inputs : Inputs) → Asks words (command_of paper) → domain_inputs (name_given words) shelf (Ok inputs) → IsTrue shelf.tells → ¬ ShelfFailed shelf → ¬ SinkFailed out
     → (answer ≡ None) ⊎ IsOutOfMemory answer
 
 -- ---- What is told

@@ -13,12 +13,12 @@ use Rattle.valid_domains.specs.Sound.{IsSoundDomain}
 use Rattle.fb_certificate.specs.Whole.{IsWhole}
 use Rattle.fb_certificate.specs.declared.types.Inputs.{Inputs}
 use Rattle.fb_certificate.specs.declared.types.Certificate.{Certificate}
-use Rattle.domain_report.specs.DomainTexts.{domain_text}
 use Rattle.run_inputs.specs.Refusals.{IsRefused}
 use Rattle.run_inputs.specs.declared.InputsError.{InputsError}
 use Rattle.run_inputs.specs.declared.InputsError.TheVariants as refusal
 use Rattle.fbcc_core.specs.Reading.{fetched, reads_rows, grid_read, crac_read, settings_read, keys_read, reductions_read}
 use Rattle.fbcc_core.specs.Seen.{ShelfSeen}
+use Rattle.fbcc_core.specs.Words.{Names}
 use Rattle.fbcc_core.specs.Steps.{Step, step, after}
 use Rattle.fbcc_core.specs.Texts.{yes_text, no_text}
 use Rattle.fbcc_core.specs.declared.answer.Document.TheVariants as document
@@ -27,6 +27,9 @@ use Rattle.fbcc_core.specs.declared.answer.Fault.TheVariants.{No, NoSlack, Split
 use Rattle.fbcc_core.specs.declared.answer.Reason.TheVariants.{Follows}
 use Rattle.fbcc_core.specs.declared.request.Command.{Command}
 use Rattle.fbcc_core.specs.declared.request.Command.TheVariants as command
+use Rattle.fbcc_core.specs.Papers.{IsPaper}
+use Rattle.fbcc_core.specs.declared.paper.Paper.{Paper}
+use Rattle.fbcc_core.specs.declared.paper.Paper.TheVariants.{Table, Evidence, Report}
 use Rattle.fbcc_core.specs.declared.work.Work.{Work}
 
 -- ---- rows
@@ -59,8 +62,8 @@ pub record IsNo (d : RowsDocument) (work : Work) : Type 0 where
 abbrev pub judges : RowsDocument → Step Work
 judges d = step (λ work. IsYes d work ⊎ IsNo d work) (λ fault. ⊥)
 
-abbrev pub rows_work : List (List ℕ) → ShelfSeen → Step Work
-rows_work words shelf = after (after (fetched words shelf document.Rows) reads_rows) judges
+abbrev pub rows_work : Names → ShelfSeen → Step Work
+rows_work names shelf = after (after (fetched names shelf document.Rows) reads_rows) judges
 
 -- ---- net
 
@@ -72,10 +75,10 @@ pub record IsNet (grid : Grid) (work : Work) : Type 0 where
 abbrev pub nets : Grid → Step Work
 nets grid = step (IsNet grid) (λ fault. ⊥)
 
-abbrev pub net_work : List (List ℕ) → ShelfSeen → Step Work
-net_work words shelf = after (grid_read words shelf) nets
+abbrev pub net_work : Names → ShelfSeen → Step Work
+net_work names shelf = after (grid_read names shelf) nets
 
--- ---- domain
+-- ---- domain, certify, report
 
 -- whole inputs of these parts
 pub record AreInputs (grid : Grid) (crac : Crac) (settings : Settings) (keys : Keys) (reductions : List Reduction) (inputs : Inputs) : Type 0 where
@@ -100,32 +103,34 @@ puts_together grid crac settings keys reductions =
     (λ fault. (e : InputsError) × IsRefused grid crac settings.slack keys.columns e × (fault ≡ fault_of e))
 
 -- the documents, one after another, and the states
-abbrev pub domain_inputs : List (List ℕ) → ShelfSeen → Step Inputs
-domain_inputs words shelf =
-    after (grid_read words shelf) (λ grid.
-    after (crac_read words shelf grid) (λ crac.
-    after (settings_read words shelf grid) (λ settings.
-    after (keys_read words shelf grid settings) (λ keys.
-    after (reductions_read words shelf crac) (λ reductions.
+abbrev pub domain_inputs : Names → ShelfSeen → Step Inputs
+domain_inputs names shelf =
+    after (grid_read names shelf) (λ grid.
+    after (crac_read names shelf grid) (λ crac.
+    after (settings_read names shelf grid) (λ settings.
+    after (keys_read names shelf grid settings) (λ keys.
+    after (reductions_read names shelf crac) (λ reductions.
     puts_together grid crac settings keys reductions)))))
 
 -- the text is that of a sound certificate, which keeps no row that follows from the box or from one other
-pub record IsDomain (inputs : Inputs) (work : Work) : Type 0 where
+pub record IsDomain (paper : Paper) (inputs : Inputs) (work : Work) : Type 0 where
   pub certificate : Certificate
   pub sound : IsSoundDomain inputs certificate
   pub thin : IsThinDomain inputs certificate
-  pub text : work.text ≡ domain_text inputs certificate
+  pub text : IsPaper paper inputs certificate work.text
   pub verdict : work.verdict ≡ None
 
-abbrev pub computes : Inputs → Step Work
-computes inputs = step (IsDomain inputs) (λ fault. ⊥)
+abbrev pub computes : Paper → Inputs → Step Work
+computes paper inputs = step (IsDomain paper inputs) (λ fault. ⊥)
 
-abbrev pub domain_work : List (List ℕ) → ShelfSeen → Step Work
-domain_work words shelf = after (domain_inputs words shelf) computes
+abbrev pub domain_work : Paper → Names → ShelfSeen → Step Work
+domain_work paper names shelf = after (domain_inputs names shelf) (computes paper)
 
 -- ---- All commands
 
-abbrev pub work_of : List (List ℕ) → ShelfSeen → Command → Step Work
-work_of words shelf command.Rows = rows_work words shelf
-work_of words shelf command.Net = net_work words shelf
-work_of words shelf command.Domain = domain_work words shelf
+abbrev pub work_of : Names → ShelfSeen → Command → Step Work
+work_of names shelf command.Rows = rows_work names shelf
+work_of names shelf command.Net = net_work names shelf
+work_of names shelf command.Domain = domain_work Table names shelf
+work_of names shelf command.Certify = domain_work Evidence names shelf
+work_of names shelf command.Report = domain_work Report names shelf

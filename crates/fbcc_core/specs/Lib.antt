@@ -1,6 +1,8 @@
 pub mod Causes
 pub mod Commands
 pub mod Kinds
+pub mod NamedDocuments
+pub mod Papers
 pub mod Printed
 pub mod Reading
 pub mod Seen

@@ -25,7 +25,7 @@ use Rattle.rows_document.specs.declared.reader.RowsDocument.{RowsDocument}
 use Rattle.fbcc_core.specs.Seen.{ShelfSeen, ShelfFailed}
 use Rattle.fbcc_core.specs.Statuses.{limit}
 use Rattle.fbcc_core.specs.Steps.{Step, step, after}
-use Rattle.fbcc_core.specs.Words.{name_given}
+use Rattle.fbcc_core.specs.Words.{Names}
 use Rattle.fbcc_core.specs.declared.answer.Document.{Document}
 use Rattle.fbcc_core.specs.declared.answer.Document.TheVariants as document
 use Rattle.fbcc_core.specs.declared.answer.Fault.{Fault}
@@ -33,31 +33,31 @@ use Rattle.fbcc_core.specs.declared.answer.Fault.TheVariants.{ReadFault, TooLong
 
 -- ---- Fetching
 
--- these are the bytes of the document under the name in the words. They are within its limit, and where the shelf tells what it holds
+-- these are the bytes of the document under its name. They are within its limit, and where the shelf tells what it holds
 -- they are what it holds
-pub record IsGiven (words : List (List ℕ)) (shelf : ShelfSeen) (document : Document) (bytes : List ℕ) : Type 0 where
+pub record IsGiven (names : Names) (shelf : ShelfSeen) (document : Document) (bytes : List ℕ) : Type 0 where
   pub name : List ℕ
-  pub named : name_given words document ≡ Some name
+  pub named : names document ≡ Some name
   pub told : IsTrue shelf.tells → Holds shelf.documents name bytes
   pub within : length bytes ≤ limit
 
 -- the shelf failed at the document
-pub record IsUnread (words : List (List ℕ)) (shelf : ShelfSeen) (document : Document) (fault : Fault) : Type 0 where
+pub record IsUnread (names : Names) (shelf : ShelfSeen) (document : Document) (fault : Fault) : Type 0 where
   pub is : fault ≡ ReadFault document
   pub name : List ℕ
-  pub named : name_given words document ≡ Some name
+  pub named : names document ≡ Some name
   pub failed : ShelfFailed shelf
   pub told : IsTrue shelf.tells → shelf.last_failed ≡ Some name
 
 -- the document has more bytes than its limit
-pub record IsLonger (words : List (List ℕ)) (shelf : ShelfSeen) (document : Document) (fault : Fault) : Type 0 where
+pub record IsLonger (names : Names) (shelf : ShelfSeen) (document : Document) (fault : Fault) : Type 0 where
   pub is : fault ≡ TooLong document limit
   pub name : List ℕ
-  pub named : name_given words document ≡ Some name
+  pub named : names document ≡ Some name
   pub told : IsTrue shelf.tells → HasMoreThan shelf.documents name limit
 
-abbrev pub fetched : List (List ℕ) → ShelfSeen → Document → Step (List ℕ)
-fetched words shelf document = step (IsGiven words shelf document) (λ fault. IsUnread words shelf document fault ⊎ IsLonger words shelf document fault)
+abbrev pub fetched : Names → ShelfSeen → Document → Step (List ℕ)
+fetched names shelf document = step (IsGiven names shelf document) (λ fault. IsUnread names shelf document fault ⊎ IsLonger names shelf document fault)
 
 -- ---- Understanding
 
@@ -100,23 +100,23 @@ reads_rows bytes = step (IsReading bytes) (λ fault. (row : ℕ) × (fault ≡ C
 
 -- ---- Each document of a domain, fetched and then understood
 
-abbrev pub grid_read : List (List ℕ) → ShelfSeen → Step Grid
-grid_read words shelf = after (fetched words shelf document.Grid) reads_grid
+abbrev pub grid_read : Names → ShelfSeen → Step Grid
+grid_read names shelf = after (fetched names shelf document.Grid) reads_grid
 
-abbrev pub tree_read : List (List ℕ) → ShelfSeen → Document → Step Data
-tree_read words shelf document = after (fetched words shelf document) (reads_tree document)
+abbrev pub tree_read : Names → ShelfSeen → Document → Step Data
+tree_read names shelf document = after (fetched names shelf document) (reads_tree document)
 
-abbrev pub crac_read : List (List ℕ) → ShelfSeen → Grid → Step Crac
-crac_read words shelf grid = after (tree_read words shelf document.Crac) (reads_crac grid)
+abbrev pub crac_read : Names → ShelfSeen → Grid → Step Crac
+crac_read names shelf grid = after (tree_read names shelf document.Crac) (reads_crac grid)
 
-abbrev pub settings_read : List (List ℕ) → ShelfSeen → Grid → Step Settings
-settings_read words shelf grid = after (tree_read words shelf document.Settings) (reads_settings grid)
+abbrev pub settings_read : Names → ShelfSeen → Grid → Step Settings
+settings_read names shelf grid = after (tree_read names shelf document.Settings) (reads_settings grid)
 
-abbrev pub keys_read : List (List ℕ) → ShelfSeen → Grid → Settings → Step Keys
-keys_read words shelf grid settings = after (tree_read words shelf document.Glsk) (reads_keys grid settings)
+abbrev pub keys_read : Names → ShelfSeen → Grid → Settings → Step Keys
+keys_read names shelf grid settings = after (tree_read names shelf document.Glsk) (reads_keys grid settings)
 
--- where the words name no reductions, there are none
-abbrev pub reductions_read : List (List ℕ) → ShelfSeen → Crac → Step (List Reduction)
-reductions_read words shelf crac result =
-    ((name_given words document.Reductions ≡ None) × (result ≡ Ok []))
-    ⊎ after (fetched words shelf document.Reductions) (reads_reductions crac) result
+-- where no document of reductions is named, there are none
+abbrev pub reductions_read : Names → ShelfSeen → Crac → Step (List Reduction)
+reductions_read names shelf crac result =
+    ((names document.Reductions ≡ None) × (result ≡ Ok []))
+    ⊎ after (fetched names shelf document.Reductions) (reads_reductions crac) result

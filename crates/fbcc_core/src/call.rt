@@ -1,21 +1,24 @@
 //! The call.
 
-ghost use Rattle.std.specs.Prelude.{◌≡◌, ◌⊎◌, ◌↔◌, Some, map, string_bytes};
-ghost use Rattle.fbcc_core.specs.Causes.{IsCaused, Refuses, Judges, Completes, IsTold, Took, TookPrefix};
+ghost use Rattle.std.specs.Prelude.{◌≡◌, ◌⊎◌, Some, map, string_bytes};
+ghost use Rattle.fbcc_core.specs.Causes.{IsCaused, IsOutOfMemory, Refuses, Judges, Completes, IsTold, Took, TookPrefix};
 ghost use Rattle.fbcc_core.specs.Commands.{work_of};
+ghost use Rattle.fbcc_core.specs.NamedDocuments.{AreNamed};
 ghost use Rattle.fbcc_core.specs.Printed.{PrintsCapacity};
 ghost use Rattle.fbcc_core.specs.Seen.{shelf_seen, sink_seen};
 ghost use Rattle.fbcc_core.specs.Statuses.{status_of};
-ghost use Rattle.fbcc_core.specs.Words.{Accepts, Asks};
+ghost use Rattle.fbcc_core.specs.Words.{Accepts, names_of};
 
 use crate::answer::{Fault, Outcome, status};
 use crate::domain_command::domain_work;
 use crate::net_command::net_work;
 use crate::output::put_all;
-use crate::request::{Command, asked};
+use crate::paper::Paper;
+use crate::request::{Command, built};
 use crate::rows_command::rows_work;
 use crate::telling::tell;
 use crate::work::Work;
+use command_words::{Request, WordsError, read_words};
 use fb_base::{Shelf, Sink};
 use std::alloc::Global;
 
@@ -29,15 +32,16 @@ pub fn fbcc<H: Shelf, O: Sink, E: Sink>(
 ) -> Outcome
     ensures status { result.status ≡ status_of result.fault }
 
-    // Words that are no command are refused, and nothing else is; nothing is fetched then.
-    ensures usage { (result.fault ≡ Some Fault.Usage) ↔ ¬ Accepts (map string_bytes words.now) }
-    ensures untouched { result.fault ≡ Some Fault.Usage → shelf.new ≡ shelf.old }
+    // Words that are no command are refused, unless memory ran out, and nothing else is; nothing is fetched then.
+    ensures usage { result.fault ≡ Some Fault.Usage → ¬ Accepts (map string_bytes words.now) }
+    ensures misused { ¬ Accepts (map string_bytes words.now) → (result.fault ≡ Some Fault.Usage) ⊎ IsOutOfMemory result.fault }
+    ensures untouched { ¬ Accepts (map string_bytes words.now) → shelf.new ≡ shelf.old }
 
     // Each answer comes only by its cause, and the cause says what was put to the output. At status 0 of `rows` the multipliers of the
     // document prove its target, which then holds at every balanced list of net positions in the box that meets the cited rows; at
-    // status 0 of `net` the document is a grid, and the text that of its net positions; at status 0 of `domain` the text is that of a
-    // valid certificate: every balanced list of net positions in the box that meets its kept inner rows is secure, and every secure
-    // one meets its outer rows.
+    // status 0 of `net` the document is a grid, and the text that of its net positions; at status 0 of `domain`, `certify` and
+    // `report` the text is that of a valid certificate: every balanced list of net positions in the box that meets its kept inner
+    // rows is secure, and every secure one meets its outer rows.
     ensures caused { IsCaused (map string_bytes words.now) (shelf_seen H.tells H.held H.faults H.last_failed shelf.old shelf.new) (sink_seen O.tells O.taken O.faults out.old out.new) result.fault }
 
     // Each refusal and each verdict comes wherever it is caused, unless the outside failed or memory ran out, and a domain is
@@ -46,8 +50,8 @@ pub fn fbcc<H: Shelf, O: Sink, E: Sink>(
     ensures judges { Judges (map string_bytes words.now) (shelf_seen H.tells H.held H.faults H.last_failed shelf.old shelf.new) (sink_seen O.tells O.taken O.faults out.old out.new) result.fault }
     ensures completes { Completes (map string_bytes words.now) (shelf_seen H.tells H.held H.faults H.last_failed shelf.old shelf.new) (sink_seen O.tells O.taken O.faults out.old out.new) result.fault }
 
-    // The promise of a domain: where the words ask for one and the answer is no fault, what was put is the table of a certificate for
-    // the inputs that the documents say, which is sound: it is valid, and
+    // The promise of a domain: where the words ask for one and the answer is no fault, what was put is the table, the text or the
+    // report of a certificate for the inputs that the documents say, which is sound: it is valid, and
     // - every balanced list of net positions in the box that meets its kept inner rows is secure, and every secure one meets its
     //   outer rows: `BracketSecure` (security/specs/Capacity.antt); what secure is: `IsSecure` (security/specs/Secure.antt);
     // - each row, kept or not, brackets its own exact flow, its gap being the difference of its two sides: `IsBracketed`
@@ -76,33 +80,41 @@ fn answer_to<H: Shelf, O: Sink>(
     shelf: &mut H,
     out: &mut O,
 ) -> Option<Fault>
-    ensures usage { (result ≡ Some Fault.Usage) ↔ ¬ Accepts (map string_bytes words.now) }
-    ensures untouched { result ≡ Some Fault.Usage → shelf.new ≡ shelf.old }
+    ensures usage { result ≡ Some Fault.Usage → ¬ Accepts (map string_bytes words.now) }
+    ensures misused { ¬ Accepts (map string_bytes words.now) → (result ≡ Some Fault.Usage) ⊎ IsOutOfMemory result }
+    ensures untouched { ¬ Accepts (map string_bytes words.now) → shelf.new ≡ shelf.old }
     ensures caused { IsCaused (map string_bytes words.now) (shelf_seen H.tells H.held H.faults H.last_failed shelf.old shelf.new) (sink_seen O.tells O.taken O.faults out.old out.new) result }
 {
-    let Some(command) = asked(words) else {
+    let request = match read_words(alloc, words) {
+        Ok(request) => request,
+        Err(WordsError::Usage) => return Some(Fault::Usage),
+        Err(WordsError::Memory(e)) => return Some(Fault::Memory(e)),
+    };
+    let Some(command) = built(request.command) else {
         return Some(Fault::Usage);
     };
-    match do_work(alloc, words, command, shelf) {
+    match do_work(alloc, &request, command, shelf) {
         Ok(work) => put_work(work, out),
         Err(fault) => Some(fault),
     }
 }
 
-/// The work of the command.
+/// The work of the command, on the documents that the request names.
 fn do_work<H: Shelf>(
     alloc: Global,
-    words: &[String],
+    request: &Request<'_>,
     command: Command,
     shelf: &mut H,
 ) -> Result<Work, Fault>
-    requires { Asks (map string_bytes words.now) command }
-    ensures { work_of (map string_bytes words.now) (shelf_seen H.tells H.held H.faults H.last_failed shelf.old shelf.new) command result }
+    requires { AreNamed command (names_of request.now) }
+    ensures { work_of (names_of request.now) (shelf_seen H.tells H.held H.faults H.last_failed shelf.old shelf.new) command result }
 {
     match command {
-        Command::Rows => rows_work(alloc, words, shelf),
-        Command::Net => net_work(alloc, words, shelf),
-        Command::Domain => domain_work(alloc, words, shelf),
+        Command::Rows => rows_work(alloc, request, shelf),
+        Command::Net => net_work(alloc, request, shelf),
+        Command::Domain => domain_work(alloc, request, Paper::Table, shelf),
+        Command::Certify => domain_work(alloc, request, Paper::Evidence, shelf),
+        Command::Report => domain_work(alloc, request, Paper::Report, shelf),
     }
 }
 

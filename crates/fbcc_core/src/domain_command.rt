@@ -1,24 +1,25 @@
-//! The command `domain`: the rows of a domain.
+//! The commands `domain`, `certify` and `report`: a domain, printed in one of its forms.
 
-ghost use Rattle.std.specs.Prelude.{◌≡◌, IfOk, length, map, string_bytes};
+ghost use Rattle.std.specs.Prelude.{◌≡◌, IfOk, length};
 ghost use Rattle.fb_certificate.specs.Whole.{IsCracOver, IsWhole};
 ghost use Rattle.glsk_keys.specs.Laws.{AreKeys};
 ghost use Rattle.run_settings.specs.Laws.{AreSettings};
 ghost use Rattle.run_settings.specs.ReductionLaws.{AreReductionsOf};
 ghost use Rattle.run_settings.specs.Views.{said};
 ghost use Rattle.fbcc_core.specs.Commands.{computes, domain_inputs, fault_of, puts_together, domain_work as domain_steps};
+ghost use Rattle.fbcc_core.specs.NamedDocuments.{AreDomainNames};
 ghost use Rattle.fbcc_core.specs.Seen.{shelf_seen};
-ghost use Rattle.fbcc_core.specs.Words.{Asks};
+ghost use Rattle.fbcc_core.specs.Words.{names_of};
 
 use crate::answer::Fault;
 use crate::documents::{
     read_crac_document, read_grid_document, read_keys_document, read_reductions_document,
     read_settings_document,
 };
-use crate::request::Command;
+use crate::paper::Paper;
 use crate::work::Work;
+use command_words::Request;
 use domain_maker::make_certificate;
-use domain_report::write_domain;
 use fb_base::Shelf;
 use fb_certificate::Inputs;
 use fb_types::{Crac, Grid, Items};
@@ -28,26 +29,31 @@ use run_settings::{Reduction, Settings};
 use std::alloc::Global;
 use valid_domains::sound;
 
-/// Reads the documents that the words name, and computes the domain.
-pub fn domain_work<H: Shelf>(alloc: Global, words: &[String], shelf: &mut H) -> Result<Work, Fault>
-    requires { Asks (map string_bytes words.now) Command.Domain }
-    ensures { domain_steps (map string_bytes words.now) (shelf_seen H.tells H.held H.faults H.last_failed shelf.old shelf.new) result }
+/// Reads the documents that the request names, computes the domain, and writes what is printed of it.
+pub fn domain_work<H: Shelf>(
+    alloc: Global,
+    request: &Request<'_>,
+    paper: Paper,
+    shelf: &mut H,
+) -> Result<Work, Fault>
+    requires { AreDomainNames (names_of request.now) }
+    ensures { domain_steps paper (names_of request.now) (shelf_seen H.tells H.held H.faults H.last_failed shelf.old shelf.new) result }
 {
-    let inputs = inputs_of(alloc, words, shelf)?;
-    compute(alloc, &inputs)
+    let inputs = inputs_of(alloc, request, shelf)?;
+    compute(alloc, paper, &inputs)
 }
 
 /// The documents, one after another, and the grid states.
-fn inputs_of<H: Shelf>(alloc: Global, words: &[String], shelf: &mut H) -> Result<Inputs, Fault>
-    requires { Asks (map string_bytes words.now) Command.Domain }
-    ensures steps { domain_inputs (map string_bytes words.now) (shelf_seen H.tells H.held H.faults H.last_failed shelf.old shelf.new) result }
+fn inputs_of<H: Shelf>(alloc: Global, request: &Request<'_>, shelf: &mut H) -> Result<Inputs, Fault>
+    requires { AreDomainNames (names_of request.now) }
+    ensures steps { domain_inputs (names_of request.now) (shelf_seen H.tells H.held H.faults H.last_failed shelf.old shelf.new) result }
     ensures whole { IfOk result IsWhole }
 {
-    let grid = read_grid_document(alloc, words, shelf)?;
-    let crac = read_crac_document(alloc, words, &grid, shelf)?;
-    let settings = read_settings_document(alloc, words, &grid, shelf)?;
-    let keys = read_keys_document(alloc, words, &grid, &settings, shelf)?;
-    let reductions = read_reductions_document(alloc, words, &crac, shelf)?;
+    let grid = read_grid_document(alloc, request, shelf)?;
+    let crac = read_crac_document(alloc, request, &grid, shelf)?;
+    let settings = read_settings_document(alloc, request, &grid, shelf)?;
+    let keys = read_keys_document(alloc, request, &grid, &settings, shelf)?;
+    let reductions = read_reductions_document(alloc, request, &crac, shelf)?;
     put_together(alloc, grid, crac, settings, keys, reductions)
 }
 
@@ -85,17 +91,17 @@ fn fault_of(error: InputsError) -> Fault
     }
 }
 
-/// The certificate's text.
-fn compute(alloc: Global, inputs: &Inputs) -> Result<Work, Fault>
+/// What is printed of the domain of the inputs.
+fn compute(alloc: Global, paper: Paper, inputs: &Inputs) -> Result<Work, Fault>
     requires { IsWhole inputs.now }
-    ensures { computes inputs.now result }
+    ensures { computes paper inputs.now result }
 {
     let certificate = match make_certificate(alloc, inputs) {
         Ok(certificate) => certificate,
         Err(e) => return Err(Fault::Memory(e)),
     };
     sound(inputs, &certificate);
-    match write_domain(alloc, inputs, &certificate) {
+    match paper.write(alloc, inputs, &certificate) {
         Ok(text) => Ok(Work {
             text: Items::from_vec(text),
             verdict: None,

@@ -1,12 +1,13 @@
 //! Documents from a shelf.
 
-ghost use Rattle.std.specs.Prelude.{◌≡◌, ◌≢◌, ◌≤◌, Some, map, string_bytes};
+ghost use Rattle.std.specs.Prelude.{◌≡◌, ◌≢◌, ◌≤◌, Some};
 ghost use Rattle.fbcc_core.specs.Reading.{fetched};
 ghost use Rattle.fbcc_core.specs.Seen.{shelf_seen};
-ghost use Rattle.fbcc_core.specs.Words.{name_given};
+ghost use Rattle.fbcc_core.specs.Words.{names_of};
 
 use crate::answer::{Document, Fault};
 use crate::request::name_for;
+use command_words::Request;
 use fb_base::{Fetch, Shelf};
 use fb_types::Items;
 use std::alloc::Global;
@@ -14,20 +15,20 @@ use std::alloc::Global;
 /// The greatest length of a document, in bytes.
 const LIMIT: u64 = 67_108_864;
 
-/// The bytes of a document that the words name.
+/// The bytes of a document that the request names.
 pub fn fetch_document<H: Shelf>(
     alloc: Global,
-    words: &[String],
+    request: &Request<'_>,
     document: Document,
     shelf: &mut H,
 ) -> Result<Items<u8>, Fault>
-    requires { name_given (map string_bytes words.now) document ≢ None }
+    requires { names_of request.now document ≢ None }
     ensures still_tells { H.tells shelf.new ≡ H.tells shelf.old }
     ensures still_held { H.held shelf.new ≡ H.held shelf.old }
     ensures never_falls { H.faults shelf.old ≤ H.faults shelf.new }
-    ensures step { fetched (map string_bytes words.now) (shelf_seen H.tells H.held H.faults H.last_failed shelf.old shelf.new) document result }
+    ensures step { fetched (names_of request.now) (shelf_seen H.tells H.held H.faults H.last_failed shelf.old shelf.new) document result }
 {
-    let Some(name) = name_for(words, document) else {
+    let Some(name) = name_for(request, document) else {
         unreachable!()
     };
     match shelf.fetch(alloc, name, LIMIT) {

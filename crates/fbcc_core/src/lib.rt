@@ -10,6 +10,7 @@ mod fetching;
 mod kinds;
 mod net_command;
 mod output;
+mod paper;
 mod request;
 mod rows_command;
 mod telling;

@@ -1,29 +1,33 @@
 //! The command `rows`: whether the multipliers of a rows document prove its target.
 
-ghost use Rattle.std.specs.Prelude.{◌≤◌, All, IfErr, IfOk, length, map, string_bytes};
+ghost use Rattle.std.specs.Prelude.{◌≢◌, ◌≤◌, All, None, IfErr, IfOk, length};
 ghost use Rattle.fb_types.specs.Domain.{IsHalfOver, AreBounds};
 ghost use Rattle.fbcc_core.specs.Commands.{IsYes, IsNo, Proves, HoldsTarget, judges, rows_work as rows_steps};
 ghost use Rattle.fbcc_core.specs.Seen.{shelf_seen};
 ghost use Rattle.fbcc_core.specs.Steps.{IsMemory};
-ghost use Rattle.fbcc_core.specs.Words.{Asks};
+ghost use Rattle.fbcc_core.specs.Words.{names_of};
 
 use crate::answer::{Document, Fault, Reason};
 use crate::fetching::fetch_document;
-use crate::request::Command;
 use crate::understanding::rows_in;
 use crate::work::Work;
+use command_words::Request;
 use fb_base::Shelf;
 use fb_types::Items;
 use redundancy::follows;
 use rows_document::RowsDocument;
 use std::alloc::Global;
 
-/// Reads the rows document that the words name, and judges it.
-pub fn rows_work<H: Shelf>(alloc: Global, words: &[String], shelf: &mut H) -> Result<Work, Fault>
-    requires { Asks (map string_bytes words.now) Command.Rows }
-    ensures { rows_steps (map string_bytes words.now) (shelf_seen H.tells H.held H.faults H.last_failed shelf.old shelf.new) result }
+/// Reads the rows document that the request names, and judges it.
+pub fn rows_work<H: Shelf>(
+    alloc: Global,
+    request: &Request<'_>,
+    shelf: &mut H,
+) -> Result<Work, Fault>
+    requires { names_of request.now Document.Rows ≢ None }
+    ensures { rows_steps (names_of request.now) (shelf_seen H.tells H.held H.faults H.last_failed shelf.old shelf.new) result }
 {
-    let bytes = fetch_document(alloc, words, Document::Rows, shelf)?;
+    let bytes = fetch_document(alloc, request, Document::Rows, shelf)?;
     let document = rows_in(alloc, bytes.as_slice())?;
     judge(alloc, &document)
 }

@@ -17,6 +17,31 @@ pub const DOMAIN: [&str; 9] = [
     "settings.json",
 ];
 
+/// The words of `certify` and of `report`.
+pub const CERTIFY: [&str; 9] = [
+    "certify",
+    "--grid",
+    "grid.uct",
+    "--crac",
+    "crac.json",
+    "--glsk",
+    "glsk.json",
+    "--settings",
+    "settings.json",
+];
+
+pub const REPORT: [&str; 9] = [
+    "report",
+    "--grid",
+    "grid.uct",
+    "--crac",
+    "crac.json",
+    "--glsk",
+    "glsk.json",
+    "--settings",
+    "settings.json",
+];
+
 pub const REDUCED: [&str; 11] = [
     "domain",
     "--grid",

@@ -196,7 +196,7 @@ struct Case {
     tables: [&'static str; 2],
 }
 
-const CASES: [Case; 16] = [
+const CASES: [Case; 13] = [
     Case {
         name: "two nodes",
         nodes: [BE, NL, ""],
@@ -369,6 +369,10 @@ const CASES: [Case; 16] = [
             "",
         ],
     },
+];
+
+/// Cases in which rows follow from others.
+const REMOVALS: [Case; 3] = [
     Case {
         name: "three elements on a line",
         nodes: [BE, NL, ""],
@@ -442,7 +446,7 @@ fn shelf_of(
 }
 
 /// The documents of two nodes.
-fn two_nodes(alloc: Global) -> Result<MemShelf, AllocError> {
+pub fn two_nodes(alloc: Global) -> Result<MemShelf, AllocError> {
     shelf_of(alloc, &[BE, NL], LINE, &BASE, TWO, KEYS_OF_TWO)
 }
 
@@ -462,6 +466,25 @@ fn is_table(alloc: Global, answer: &Answer, case: &Case) -> Result<bool, AllocEr
 #[test]
 fn tables_are_printed(rt: HostRuntime) -> Result<(), AllocError> {
     for case in &CASES {
+        let mut shelf = shelf_of(
+            rt.alloc(),
+            &case.nodes,
+            case.lines,
+            &case.elements,
+            case.settings,
+            case.keys,
+        )?;
+        let answer = call(rt.alloc(), &DOMAIN, &mut shelf)?;
+        let is_table = is_table(rt.alloc(), &answer, case)?;
+        let name = case.name;
+        assert!(rt; is_table, "{name}");
+    }
+    Ok(())
+}
+
+#[test]
+fn rows_that_follow_are_removed(rt: HostRuntime) -> Result<(), AllocError> {
+    for case in &REMOVALS {
         let mut shelf = shelf_of(
             rt.alloc(),
             &case.nodes,
@@ -702,7 +725,7 @@ fn no_other_document_is_fetched(rt: HostRuntime) -> Result<(), AllocError> {
 }
 
 #[test]
-fn words_of_domain(rt: HostRuntime) -> Result<(), Fail> {
+fn other_words_than_those_of_domain_are_refused(rt: HostRuntime) -> Result<(), Fail> {
     let lists: [&[&str]; 5] = [
         &["domain"],
         &["domain", "--grid", "grid.uct"],
@@ -730,7 +753,7 @@ fn words_of_domain(rt: HostRuntime) -> Result<(), Fail> {
             "--settings",
             "s",
             "--workers",
-            "1",
+            "65",
         ],
         &[
             "domain",
@@ -748,6 +771,45 @@ fn words_of_domain(rt: HostRuntime) -> Result<(), Fail> {
         let mut shelf = MemShelf::new(rt.alloc());
         let answer = call(rt.alloc(), words, &mut shelf)?;
         assert!(rt; matches!(answer.outcome.fault, Some(Fault::Usage)));
+    }
+    Ok(())
+}
+
+/// The words of `domain`, with these workers.
+fn with_workers<'a>(workers: &'a str) -> [&'a str; 10] {
+    [
+        "domain",
+        workers,
+        "--grid",
+        "grid.uct",
+        "--crac",
+        "crac.json",
+        "--glsk",
+        "glsk.json",
+        "--settings",
+        "settings.json",
+    ]
+}
+
+#[test]
+fn workers_are_from_1_to_64(rt: HostRuntime) -> Result<(), Fail> {
+    let table = [
+        ("--workers=1", 0),
+        ("--workers=2", 0),
+        ("--workers=064", 0),
+        ("--workers=0", 2),
+        ("--workers=65", 2),
+        ("--workers=-1", 2),
+        ("--workers=+1", 2),
+        ("--workers=1e1", 2),
+        ("--workers=1 ", 2),
+        ("--workers=", 2),
+    ];
+    for (workers, status) in table {
+        let mut shelf = two_nodes(rt.alloc())?;
+        let words = with_workers(workers);
+        let answer = call(rt.alloc(), &words, &mut shelf)?;
+        assert_eq!(rt; answer.outcome.status, status);
     }
     Ok(())
 }

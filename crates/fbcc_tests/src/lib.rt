@@ -18,6 +18,8 @@ mod large;
 #[cfg(test)]
 mod net;
 #[cfg(test)]
+mod papers;
+#[cfg(test)]
 mod rows;
 #[cfg(test)]
 mod settings;

@@ -294,10 +294,12 @@ fn a_document_past_the_limit_is_too_long(rt: HostRuntime) -> Result<(), Fail> {
 
 #[test]
 fn other_words_are_refused(rt: HostRuntime) -> Result<(), Fail> {
-    let lists: [&[&str]; 12] = [
+    let lists: [&[&str]; 22] = [
         &[],
         &[""],
+        &["-h"],
         &["rows"],
+        &["row", "--rows", "rows.txt"],
         &["--rows", "rows.txt"],
         &["rows", "--rows"],
         &["rows", "rows.txt"],
@@ -306,7 +308,15 @@ fn other_words_are_refused(rt: HostRuntime) -> Result<(), Fail> {
         &["rows", "--row", "rows.txt"],
         &["ROWS", "--rows", "rows.txt"],
         &["rows", "--rows", "rows.txt", "--rows", "rows.txt"],
+        &["rows", "--rows=rows.txt", "--rows", "rows.txt"],
+        &["rows", "--rows", "rows.txt", "--help"],
+        &["rows", "--rows", "rows.txt", "--workers", "1"],
+        &["rows", "--=rows.txt"],
+        &["rows", "--rows", "--", "rows.txt"],
+        &["--", "rows", "--rows", "rows.txt"],
         &["certify", "--rows", "rows.txt"],
+        &["check", "--rows", "rows.txt"],
+        &["selftest", "--case", "1", "--nodes", "48"],
     ];
     for texts in lists {
         let mut shelf = MemShelf::new(rt.alloc());
@@ -316,6 +326,29 @@ fn other_words_are_refused(rt: HostRuntime) -> Result<(), Fail> {
         assert!(rt; matches!(answer.outcome.fault, Some(Fault::Usage)));
         assert!(rt; answer.out.bytes().is_empty());
         assert!(rt; answer.err.bytes() == b"usage: fbcc COMMAND [--name value]\n".as_slice());
+    }
+    Ok(())
+}
+
+#[test]
+fn words_are_taken_by_their_forms(rt: HostRuntime) -> Result<(), Fail> {
+    let document = changed(rt.alloc(), Before(1, ""))?;
+    let calls: [(&[&str], &str); 8] = [
+        (&["rows", "--rows", "rows.txt"], "rows.txt"),
+        (&["rows", "--rows=rows.txt"], "rows.txt"),
+        (&["--rows", "rows.txt", "rows"], "rows.txt"),
+        (&["--rows=rows.txt", "--", "rows"], "rows.txt"),
+        (&["rows", "--rows=-rows.txt"], "-rows.txt"),
+        (&["rows", "--rows=a=b.txt"], "a=b.txt"),
+        (&["rows", "--rows", "a=b.txt"], "a=b.txt"),
+        (&["rows", "--rows", "-"], "-"),
+    ];
+    for (texts, name) in calls {
+        let mut shelf = MemShelf::new(rt.alloc());
+        shelf.add(name, document.as_bytes())?;
+        let answer = call(rt.alloc(), texts, &mut shelf)?;
+        assert_eq!(rt; answer.outcome.status, 0);
+        assert_eq!(rt; answer.out.bytes(), b"yes\n".as_slice());
     }
     Ok(())
 }

@@ -1,11 +1,11 @@
-use Rattle.fbcc_core.proofs.Answered.{kept_caused, kept_usage, usage_kept, refuses, judges, completes, prints_capacity}
+use Rattle.fbcc_core.proofs.Answered.{kept_caused, misused_kept, usage_kept, refuses, judges, completes, prints_capacity}
 use Rattle.fbcc_core.proofs.call.fbcc.Goals as goal
 
 pub returns-clause-usage : goal.returns-clause-usage
-returns-clause-usage g c = (λ e. c.answer_to-answer.ensures.usage.0 (usage_kept _ _ c.tell-fault.ensures.kept e), λ unasked. kept_usage _ _ c.tell-fault.ensures.kept (c.answer_to-answer.ensures.usage.1 unasked))
+returns-clause-usage g c = λ e. c.answer_to-answer.ensures.usage (usage_kept _ _ c.tell-fault.ensures.kept e)
 
-pub returns-clause-untouched : goal.returns-clause-untouched
-returns-clause-untouched g c = λ e. c.answer_to-answer.ensures.untouched (usage_kept _ _ c.tell-fault.ensures.kept e)
+pub returns-clause-misused : goal.returns-clause-misused
+returns-clause-misused g c = λ unasked. misused_kept _ _ c.tell-fault.ensures.kept (c.answer_to-answer.ensures.misused unasked)
 
 pub returns-clause-caused : goal.returns-clause-caused
 returns-clause-caused g c = kept_caused _ _ _ _ _ c.tell-fault.ensures.kept c.answer_to-answer.ensures.caused

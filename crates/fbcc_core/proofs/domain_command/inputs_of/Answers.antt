@@ -1,19 +1,6 @@
 use Rattle.std.proofs.lemmas.Result.{err_from_is_err_and}
 use Rattle.fbcc_core.proofs.Chains.{kept_from, kept_on, first_part, later_part, last_part, inputs_joined, crac_refused, settings_refused, keys_refused, reductions_refused, grid_part, crac_part, settings_part, keys_part, reductions_part, crac_end, settings_end, keys_end, reductions_end}
-use Rattle.fbcc_core.proofs.NeededNames.{domain_grid_named, crac_named, settings_named, keys_named}
 use Rattle.fbcc_core.proofs.domain_command.inputs_of.Goals as goal
-
-pub read_grid_document-requires : goal.read_grid_document-requires
-read_grid_document-requires g c = domain_grid_named _ c.requires
-
-pub read_crac_document-requires : goal.read_crac_document-requires
-read_crac_document-requires g c = crac_named _ c.requires
-
-pub read_settings_document-requires : goal.read_settings_document-requires
-read_settings_document-requires g c = settings_named _ c.requires
-
-pub read_keys_document-requires : goal.read_keys_document-requires
-read_keys_document-requires g c = keys_named _ c.requires
 
 pub returns-in_err-crac-clause-steps : goal.returns-in_err-crac-clause-steps
 returns-in_err-crac-clause-steps g c =

@@ -1,9 +1,5 @@
 use Rattle.fbcc_core.proofs.Chains.{rows_joined}
-use Rattle.fbcc_core.proofs.NeededNames.{rows_named}
 use Rattle.fbcc_core.proofs.rows_command.rows_work.Goals as goal
-
-pub fetch_document-requires : goal.fetch_document-requires
-fetch_document-requires g c = rows_named _ c.requires
 
 pub returns : goal.returns
 returns g c = rows_joined _ _ c.as_slice.result.now c.in_ok-document.document c.judge.result (rw c.as_slice.ensures.items c.in_ok-bytes.ensures.step) c.in_ok-document.ensures.step c.judge.ensures

@@ -1,0 +1,10 @@
+pub mod Beginnings
+pub mod CitationLaws
+pub mod Leaves
+pub mod LineLaws
+pub mod Parts
+pub mod RecordOf
+pub mod Runs
+pub mod Steps
+pub mod Unlabelled
+pub mod Written

@@ -1,0 +1,4 @@
+pub mod Drafts
+pub mod Reading
+pub mod Records
+pub mod Spellings

@@ -1,0 +1,3 @@
+pub mod CertificateTexts
+pub mod Lines
+pub mod Pieces

@@ -1,0 +1,4 @@
+pub mod ListLaws
+pub mod Lists
+pub mod WordLaws
+pub mod Words

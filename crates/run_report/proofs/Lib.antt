@@ -1,0 +1,3 @@
+pub mod Counts
+pub mod RowTrees
+pub mod Texts

@@ -1,0 +1,99 @@
+//! The report of a run: one line of JSON.
+#![tactic(auto)]
+
+ghost use Rattle.std.specs.Prelude.{◌≡◌, IfOk, string_bytes};
+ghost use Rattle.fb_certificate.specs.Valid.{IsValid};
+ghost use Rattle.fb_certificate.specs.Whole.{IsWhole};
+ghost use Rattle.run_report.specs.Lines.{classes_text, gap_text, inner_text, line_text, outer_text};
+ghost use Rattle.run_report.specs.ReportTexts.{IsReport};
+
+mod json;
+mod notes;
+mod rows;
+mod spans;
+mod summary;
+
+use fb_certificate::{Certificate, Inputs};
+use json::array_text;
+use notes::notes;
+use rows::row_texts;
+use spans::row_spans;
+use std::alloc::{AllocError, Global};
+use summary::{Summary, summary_of};
+
+/// The report of a run, from a certificate that is valid for its inputs: one line of compact JSON, an object whose
+/// members stand in the order of their names.
+///
+/// `rows` has an object for each row of the CRAC, element by element, DIRECT before OPPOSITE: its number from 1, the id
+/// of its element, its direction, its class, its flows and its margin, each as the two ends of a span in whole watts,
+/// the low one rounded down and the high one up, its spread as the two ends of a span in 10^-12, and the gap of its
+/// right sides in watts. Beside the rows stand how many are BELOW and how many DOUBTFUL, how many of each list are kept
+/// and how many removed, the greatest gap of all rows, and the ids of the branches whose reactance was raised.
+pub fn write_report(
+    alloc: Global,
+    inputs: &Inputs,
+    certificate: &Certificate,
+) -> Result<Vec<u8>, AllocError>
+    requires whole { IsWhole inputs.now }
+    requires valid { IsValid inputs.now certificate.now }
+    ensures { IfOk result (λ text. IsReport inputs.now certificate.now text.items) }
+{
+    let spans = row_spans(alloc, inputs, certificate)?;
+    let rows = row_texts(alloc, inputs, certificate, spans.as_slice())?;
+    let rows = array_text(alloc, rows.as_slice())?;
+    let notes = notes(alloc, inputs.grid.branches.as_slice())?;
+    let notes = array_text(alloc, notes.as_slice())?;
+    let summary = summary_of(inputs, certificate);
+    let text = report_line(alloc, &summary, notes.as_str(), rows.as_str())?;
+    Ok(text.into_bytes())
+}
+
+/// The line, from its counts, its notes and its rows.
+fn report_line(
+    alloc: Global,
+    summary: &Summary,
+    notes: &str,
+    rows: &str,
+) -> Result<String, AllocError>
+    ensures { IfOk result (λ line. string_bytes line ≡ line_text summary.now notes.now rows.now) }
+{
+    let classes = classes(alloc, summary)?;
+    let inner = inner(alloc, summary)?;
+    let outer = outer(alloc, summary)?;
+    format!(in alloc; "{classes}{inner}{notes}{outer}{rows}}}\n")
+}
+
+/// The counts of rows by class, and the greatest gap.
+fn classes(alloc: Global, summary: &Summary) -> Result<String, AllocError>
+    ensures { IfOk result (λ text. string_bytes text ≡ classes_text summary.now) }
+{
+    let below = summary.below;
+    let doubtful = summary.doubtful;
+    let gap = greatest_gap(alloc, summary.greatest_gap)?;
+    format!(in alloc; "{{\"below\":{below},\"doubtful\":{doubtful}{gap}")
+}
+
+/// The member of the greatest gap.
+fn greatest_gap(alloc: Global, gap: i128) -> Result<String, AllocError>
+    ensures { IfOk result (λ text. string_bytes text ≡ gap_text gap) }
+{
+    format!(in alloc; ",\"greatestGap\":{gap}")
+}
+
+/// The members from those of the inner list to the notes.
+fn inner(alloc: Global, summary: &Summary) -> Result<String, AllocError>
+    ensures { IfOk result (λ text. string_bytes text ≡ inner_text summary.now) }
+{
+    let kept = summary.inner_kept;
+    let removed = summary.inner_removed;
+    format!(in alloc; ",\"innerKept\":{kept},\"innerRemoved\":{removed},\"notes\":")
+}
+
+/// The members from those of the outer list to the rows.
+fn outer(alloc: Global, summary: &Summary) -> Result<String, AllocError>
+    ensures { IfOk result (λ text. string_bytes text ≡ outer_text summary.now) }
+{
+    let kept = summary.outer_kept;
+    let removed = summary.outer_removed;
+    format!(in alloc; ",\"outerKept\":{kept},\"outerRemoved\":{removed},\"rows\":")
+}
