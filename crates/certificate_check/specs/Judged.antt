@@ -1,6 +1,6 @@
 -- Words of private contracts: what becomes of a part of the records. Nobody need believe them.
-use Rattle.std.specs.Prelude.{◌≡◌, ℕ, ◌+◌, ◌≤◌, List, [], ◌++◌, length, All, map, drop, ℤ}
-use Rattle.std.specs.List.{AllZip}
+use Rattle.std.specs.Prelude.{◌≡◌, ℕ, ◌+◌, ◌≤◌, List, [], ◌∷◌, ◌++◌, length, All, map, drop, ℤ}
+use Rattle.std.specs.List.{AllZip, zip}
 use Rattle.fb_types.specs.declared.keys.Block.{Block}
 use Rattle.fb_types.specs.declared.keys.Column.{Column}
 use Rattle.fb_types.specs.declared.rows.Angles.{Angles}
@@ -30,6 +30,16 @@ number_of (Failed number reason) = number
 abbrev pub behind : ℕ → Judgement → Judgement
 behind before (Passed count) = Passed (before + count)
 behind before (Failed number reason) = Failed (before + number) reason
+
+-- the judgement of two parts, one after the other
+abbrev pub followed : Judgement → Judgement → Judgement
+followed (Passed count) later = behind count later
+followed (Failed number reason) later = Failed number reason
+
+-- the judgement of parts, one after another
+abbrev pub joined : List Judgement → Judgement
+joined [] = Passed 0
+joined (judgement ∷ later) = followed judgement (joined later)
 
 -- the first records of the whole, so many, pass, and these are left
 pub record IsReached (inputs : Inputs) (c : Certificate) (whole left : List Record) (count : ℕ) : Type 0 where
@@ -84,6 +94,12 @@ AreZonesJudged s zones columns judgement =
 -- the records of a state, and of all states, whatever else the certificate has
 abbrev pub IsStateJudged : Inputs → GridState → StateProof → Judgement → Type 0
 IsStateJudged inputs s proof judgement = (c : Certificate) → IsJudged inputs c (state_records inputs s proof) judgement
+
+-- each state, beside its proof, has its judgement
+abbrev pub AreEachJudged : Inputs → List StateProof → List Judgement → Type 0
+AreEachJudged inputs proofs judgements =
+    AllZip (λ claim judgement. IsStateJudged inputs claim.0 claim.1 judgement × (number_of judgement ≤ 303))
+    (zip inputs.states proofs) judgements
 
 abbrev pub AreStatesJudged : Inputs → List StateProof → Judgement → Type 0
 AreStatesJudged inputs proofs judgement =

@@ -1,7 +1,7 @@
 //! What becomes of a part of a certificate's records.
 
-ghost use Rattle.std.specs.Prelude.{◌≡◌, ◌+◌, ◌^◌, ◌<◌};
-ghost use Rattle.certificate_check.specs.Judged.{number_of, behind};
+ghost use Rattle.std.specs.Prelude.{◌≡◌, ◌+◌, ◌*◌, ◌^◌, ◌<◌, ◌≤◌, All, length};
+ghost use Rattle.certificate_check.specs.Judged.{number_of, behind, followed, joined};
 
 use crate::verdict::Reason;
 
@@ -31,4 +31,30 @@ impl Judgement {
             },
         }
     }
+
+    /// The judgement of the part and of one after it: the first failure of both, if there is one.
+    pub(crate) fn then(self, later: Judgement) -> Judgement
+        requires { number_of self + number_of later < 2 ^ 64 }
+        ensures value { result ≡ followed self later }
+        ensures number { number_of result ≤ number_of self + number_of later }
+    {
+        match self {
+            Judgement::Passed { records } => later.behind(records),
+            Judgement::Failed { record, reason } => Judgement::Failed { record, reason },
+        }
+    }
+}
+
+/// The judgement of parts, one after another, from the judgement of each: the first failure, if there is one.
+pub(crate) fn joined(judgements: &[Judgement]) -> Judgement
+    requires few { length judgements.now ≤ 513 }
+    requires small { All (λ j. number_of j ≤ 303) judgements.now }
+    ensures value { result ≡ joined judgements.now }
+    ensures small { number_of result ≤ 303 * 513 }
+{
+    let mut judgement = Judgement::Passed { records: 0 };
+    for next in judgements {
+        judgement = judgement.then(*next);
+    }
+    judgement
 }

@@ -1,17 +1,21 @@
-//! Whether the states of a certificate are proved.
+//! Whether the states of a certificate are proved, judged by several workers.
 
-ghost use Rattle.std.specs.Prelude.{◌≡◌, ◌≤◌, length, IfOk};
+ghost use Rattle.std.specs.Prelude.{◌≡◌, ◌≤◌, map, IfOk};
+ghost use Rattle.std.specs.List.{zip};
 ghost use Rattle.grid_laplacian.specs.Ranges.{IsOfGrid, IsInRange};
 ghost use Rattle.fb_certificate.specs.Whole.{IsWhole};
-ghost use Rattle.certificate_check.specs.Judged.{IsStateJudged, AreStatesJudged, number_of};
+ghost use Rattle.certificate_check.specs.Judged.{IsStateJudged, AreEachJudged, AreStatesJudged, number_of};
 
 use crate::barriers::barrier_fault;
 use crate::blocks::{judge_zones, reference_fault};
-use crate::judgement::Judgement;
+use crate::judgement::{Judgement, joined};
 use crate::verdict::Reason;
+use fan_out::{Gate, Work, all_made, fan};
 use fb_certificate::{Inputs, StateProof};
+use fb_types::Items;
 use grid_state::State;
 use std::alloc::{AllocError, Global};
+use std::thread::Threads;
 
 /// Judges the records of a state: its mark, its barrier, the column of the reference and those of the blocks.
 fn judge_state(
@@ -37,50 +41,94 @@ fn judge_state(
     Ok(blocks.behind(3))
 }
 
-/// How many states there are.
-fn count_states(inputs: &Inputs) -> usize
-    requires { IsWhole inputs.now }
-    ensures value { result ≡ length inputs.now.states }
-    ensures few { length inputs.now.states ≤ 513 }
-{
-    inputs.states.as_slice().len()
+/// A state of the inputs and the proof that the certificate has for it.
+#[derive(Drop)]
+struct Claim<'a> {
+    state: &'a State,
+    proof: &'a StateProof,
 }
 
-/// Judges the records of all states.
-pub(crate) fn judge_states(
+/// Each state with its proof, in order, as far as both lists go.
+fn claims_of<'a>(
+    alloc: Global,
+    states: &'a [State],
+    proofs: &'a [StateProof],
+) -> Result<Items<Claim<'a>>, AllocError>
+    ensures { IfOk result (λ claims.
+        map (λ claim. (claim.state.now, claim.proof.now)) claims ≡ zip states.now proofs.now) }
+{
+    let mut claims = Items::new(alloc);
+    for (state, proof) in states.iter().zip(proofs) {
+        claims.add(Claim { state, proof })?;
+    }
+    Ok(claims)
+}
+
+/// Judges the records of a state of the inputs.
+#[derive(Drop)]
+struct StateJudge<'a> {
+    inputs: &'a Inputs,
+}
+
+impl<'a> Work for StateJudge<'a> {
+    type Item = Claim<'a>;
+
+    type Out = Result<Judgement, AllocError>;
+
+    ghost takes = { λ judge claim. IsWhole judge.inputs.now
+        × IsOfGrid judge.inputs.now.grid claim.state.now
+        × IsInRange judge.inputs.now.grid claim.state.now };
+
+    ghost gives = { λ judge claim answer. IfOk answer (λ j.
+        IsStateJudged judge.inputs.now claim.state.now claim.proof.now j × (number_of j ≤ 303)) };
+
+    fn run(&self, alloc: Global, claim: &Claim<'a>) -> Result<Judgement, AllocError> {
+        judge_state(alloc, self.inputs, claim.state, claim.proof)
+    }
+}
+
+/// Judges the records of each state that has a proof, by so many workers. The place of a state at the gate is its
+/// number.
+fn judge_each<R: Threads + Sync, G: Gate + Sync>(
+    rt: &R,
     alloc: Global,
     inputs: &Inputs,
     proofs: &[StateProof],
+    gate: &G,
+    workers: u32,
+) -> Result<Items<Judgement>, AllocError>
+    requires whole { IsWhole inputs.now }
+    requires workers { (1 ≤ workers) × (workers ≤ 64) }
+    ensures { IfOk result (AreEachJudged inputs.now proofs.now) }
+{
+    let claims = claims_of(alloc, inputs.states.as_slice(), proofs)?;
+    let judge = StateJudge { inputs };
+    let answers = fan(rt, alloc, &judge, gate, &claims, workers)?;
+    all_made(alloc, answers)
+}
+
+/// Judges the records of all states, by so many workers.
+pub(crate) fn judge_states<R: Threads + Sync, G: Gate + Sync>(
+    rt: &R,
+    alloc: Global,
+    inputs: &Inputs,
+    proofs: &[StateProof],
+    gate: &G,
+    workers: u32,
 ) -> Result<Judgement, AllocError>
-    requires { IsWhole inputs.now }
+    requires whole { IsWhole inputs.now }
+    requires workers { (1 ≤ workers) × (workers ≤ 64) }
     ensures judged { IfOk result (AreStatesJudged inputs.now proofs.now) }
     ensures small { IfOk result (λ j. number_of j ≤ 200000) }
 {
-    let states = inputs.states.as_slice();
-    let count = count_states(inputs);
-    let mut done = 0;
-    for i in 0..count {
-        if proofs.len() <= i {
-            return Ok(Judgement::Failed {
-                record: done + 1,
-                reason: Reason::Order,
-            });
-        }
-        match judge_state(alloc, inputs, &states[i], &proofs[i])? {
-            Judgement::Passed { records } => done += records,
-            Judgement::Failed { record, reason } => {
-                return Ok(Judgement::Failed {
-                    record: done + record,
-                    reason,
-                });
-            }
-        }
+    let judgements = judge_each(rt, alloc, inputs, proofs, gate, workers)?;
+    let judgement = joined(judgements.as_slice());
+    if inputs.states.len() == proofs.len() as u64 {
+        return Ok(judgement);
     }
-    if count < proofs.len() {
-        return Ok(Judgement::Failed {
-            record: done + 1,
-            reason: Reason::Order,
-        });
-    }
-    Ok(Judgement::Passed { records: done })
+    let misplaced = Judgement::Failed {
+        record: 1,
+        reason: Reason::Order,
+    };
+    Ok(judgement.then(misplaced))
 }

@@ -56,11 +56,15 @@ all_fields : (ls : List Line) → All (λ r. 0 < length r) (map fields_of ls)
 all_fields [] = All-nil (λ (r : List (List ℕ)). 0 < length r)
 all_fields (l ∷ ls) = All-cons (λ (r : List (List ℕ)). 0 < length r) (fields_of l) (map fields_of ls) (some_field l) (all_fields ls)
 
+-- the text of a certificate holds its lines, whatever their ranges
+pub records_written : (inputs : Inputs) (c : Certificate) → records_in (certificate_text inputs c) ≡ map fields_of (labelled inputs c)
+records_written inputs c = rows_written (map fields_of (labelled inputs c)) (all_fields (labelled inputs c)) (no_bom 118 _ refl)
+
 pub reads_back : (inputs : Inputs) (c : Certificate) → HasDueLengths inputs c → All IsGood (labelled inputs c) → IsReading (certificate_text inputs c) c
 reads_back inputs c h good = record {
   lines = labelled inputs c;
   good = good;
-  spelled = rows_written (map fields_of (labelled inputs c)) (all_fields (labelled inputs c)) (no_bom 118 _ refl);
+  spelled = records_written inputs c;
   version = h.version;
   parts = labelled_is inputs c h;
 }

@@ -11,11 +11,11 @@ use crate::numbers::put_numbers;
 use fb_types::{Angles, Column};
 use std::alloc::{AllocError, Global};
 
-/// The zone and the number of each block, zone by zone, both from 1.
-pub(crate) fn block_places(
-    alloc: Global,
-    columns: &[Column],
-) -> Result<Vec<(usize, usize)>, AllocError>
+/// The zone and the number of each block, zone by zone, both from 1: the places of the columns that follow a state's
+/// reference.
+///
+/// The one error is want of memory.
+pub fn block_places(alloc: Global, columns: &[Column]) -> Result<Vec<(usize, usize)>, AllocError>
     ensures { IfOk result (λ places. places.items ≡ block_places columns.now) }
 {
     let mut places = Vec::new(alloc);

@@ -12,11 +12,12 @@ mod rows;
 mod states;
 
 use cites::put_cites;
-use columns::block_places;
+pub use columns::block_places;
 use fb_certificate::{Certificate, Inputs};
 use line::put_line;
 use rows::put_rows;
-use states::{put_states, state_ids};
+use states::put_states;
+pub use states::state_ids;
 use std::alloc::{AllocError, Global};
 
 /// The text of a certificate of version 1: a CSV table with a line for the version, the lines of each state, a line for

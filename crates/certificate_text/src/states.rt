@@ -15,7 +15,9 @@ use state_proofs::StateProof;
 use std::alloc::{AllocError, Global};
 
 /// The id of the contingency of each state, empty for the base state.
-pub(crate) fn state_ids(alloc: Global, inputs: &Inputs) -> Result<Vec<&str>, AllocError>
+///
+/// The one error is want of memory.
+pub fn state_ids(alloc: Global, inputs: &Inputs) -> Result<Vec<&str>, AllocError>
     ensures { IfOk result (λ ids. map (λ id. id.now) ids.items ≡ state_ids inputs.now) }
 {
     let contingencies = inputs.crac.contingencies.as_slice();

@@ -1,6 +1,7 @@
 //! The program: the files of the machine, standard output and standard error, and the call.
 #![tactic(auto)]
 
+use fan_out::OpenGate;
 use fb_base::{DirShelf, StdSink};
 use fbcc_core::fbcc;
 use std::process::ExitCode;
@@ -24,7 +25,15 @@ fn main(rt: HostRuntime) -> ExitCode {
     let mut shelf = DirShelf::new(&rt);
     let mut out = StdSink::new(rt.stdout());
     let mut err = StdSink::new(rt.stderr());
-    let outcome = fbcc(rt.alloc(), words.as_slice(), &mut shelf, &mut out, &mut err);
+    let outcome = fbcc(
+        &rt,
+        rt.alloc(),
+        words.as_slice(),
+        &mut shelf,
+        &mut out,
+        &mut err,
+        &OpenGate,
+    );
     ExitCode::from(outcome.status)
 }
 

@@ -3,16 +3,19 @@ use Rattle.std.proofs.Common.{◌≡◌, ◌⊎◌, ℕ, List, ◌∷◌, inl, i
 use Rattle.std.specs.Prelude.{Option, Some, None, Result, Ok, Err, IsTrue}
 use Rattle.fb_certificate.specs.declared.types.Inputs.{Inputs}
 use Rattle.rows_document.specs.declared.reader.RowsDocument.{RowsDocument}
-use Rattle.fbcc_core.specs.Causes.{Comes, IsOutOfMemory, IsCaused, Refuses, Judges, Completes, IsUntouched, Took}
-use Rattle.fbcc_core.specs.Commands.{IsYes, IsNo, domain_inputs, domain_work, work_of}
+use Rattle.fbcc_core.specs.Causes.{Comes, IsOutOfMemory, IsCaused, Refuses, Judges, Completes, IsVerdictTold, Verifies, IsUntouched, Took}
+use Rattle.fbcc_core.specs.Commands.{IsYes, IsNo, IsAccepted, IsRejected, domain_inputs, domain_work, check_work, selftest_work, work_of}
 use Rattle.fbcc_core.specs.Papers.{command_of}
-use Rattle.fbcc_core.specs.Printed.{IsDomainPut, PrintsCapacity}
+use Rattle.fbcc_core.specs.Printed.{IsDomainPut, PrintsCapacity, IsCertificateAccepted, ChecksCapacity, IsSummaryPut, PrintsSummary}
+use Rattle.fbcc_core.specs.Reading.{run_documents, certificate_read}
 use Rattle.fbcc_core.specs.Seen.{ShelfSeen, SinkSeen, ShelfFailed}
 use Rattle.fbcc_core.specs.Steps.{IsMemory}
 use Rattle.fbcc_core.specs.Telling.{IsMade, IsKept}
 use Rattle.fbcc_core.specs.Words.{Asks, Names, name_given}
 use Rattle.fbcc_core.specs.declared.answer.Fault.{Fault}
 use Rattle.fbcc_core.specs.declared.answer.Fault.TheVariants.{No, Usage, ReadFault, TooLong, GridFault, JsonFault, CracFault, KeyFault, SettingsFault, ReductionFault, NoSlack, SplitGrid, RangeExceeded, CertificateFault, WriteFault, Memory}
+use Rattle.fbcc_core.specs.declared.documents.CertificateFile.{CertificateFile}
+use Rattle.fbcc_core.specs.declared.documents.RunDocuments.{RunDocuments}
 use Rattle.fbcc_core.specs.declared.paper.Paper.{Paper}
 use Rattle.fbcc_core.specs.declared.paper.Paper.TheVariants.{Table, Evidence, Report}
 use Rattle.fbcc_core.specs.declared.request.Command.{Command}
@@ -20,7 +23,9 @@ use Rattle.fbcc_core.specs.declared.request.Command.TheVariants as command
 use Rattle.fbcc_core.specs.declared.work.Work.{Work}
 use Rattle.fbcc_core.proofs.Agreement.{Agrees}
 use Rattle.fbcc_core.proofs.Asking.{command_same}
-use Rattle.fbcc_core.proofs.OneAnswer.{JudgeSame, work_once, inputs_once}
+use Rattle.fbcc_core.proofs.Chains.{past_documents, past_file}
+use Rattle.fbcc_core.proofs.Checking.{told_of}
+use Rattle.fbcc_core.proofs.OneAnswer.{JudgeSame, work_once, documents_once, inputs_once, certificate_once}
 
 -- ---- The words ask for one command
 
@@ -61,12 +66,18 @@ rows_verdict : (d : RowsDocument) (work : Work) → IsYes d work ⊎ IsNo d work
 rows_verdict d work (inl y) = subst IsVerdict (sym y.verdict) tt
 rows_verdict d work (inr n) = subst IsVerdict (sym n.verdict) tt
 
+check_verdict : (inputs : Inputs) (file : CertificateFile) (work : Work) → IsAccepted inputs file work ⊎ IsRejected inputs file work → IsVerdict work.verdict
+check_verdict inputs file work (inl a) = subst IsVerdict (sym a.verdict) tt
+check_verdict inputs file work (inr r) = subst IsVerdict (sym r.verdict) tt
+
 verdict_of : (names : Names) (shelf : ShelfSeen) (c : Command) (work : Work) → work_of names shelf c (Ok work) → IsVerdict work.verdict
 verdict_of names shelf command.Rows work h = rows_verdict h.0 work h.2
 verdict_of names shelf command.Net work h = subst IsVerdict (sym h.2.verdict) tt
 verdict_of names shelf command.Domain work h = subst IsVerdict (sym h.2.verdict) tt
 verdict_of names shelf command.Certify work h = subst IsVerdict (sym h.2.verdict) tt
+verdict_of names shelf command.Check work h = check_verdict h.2.2.0 h.2.0 work h.2.2.2
 verdict_of names shelf command.Report work h = subst IsVerdict (sym h.2.verdict) tt
+verdict_of names shelf (command.Selftest case nodes) work h = subst IsVerdict (sym h.2.verdict) tt
 
 -- a fault whose line takes memory is no verdict
 made_apart : (fault : Fault) → IsMade fault → IsVerdict (Some fault) → ⊥
@@ -199,3 +210,82 @@ prints_capacity words shelf out answer (inr (inl d)) paper asked none = domain_p
 prints_capacity words shelf out answer (inr (inr (inl r))) paper asked none = absurd (let e = r.is in cc)
 prints_capacity words shelf out answer (inr (inr (inr (inl u)))) paper asked none = absurd (let e = u.is in cc)
 prints_capacity words shelf out answer (inr (inr (inr (inr s)))) paper asked none = absurd (subst IsOutOfMemory none s.is)
+
+-- ---- A certificate that is checked
+
+check_steps : (words : List (List ℕ)) (shelf : ShelfSeen) (r : Result Work Fault) → Asks words command.Check → Comes words shelf r → check_work (name_given words) shelf r
+check_steps words shelf r asked comes = steps_same words shelf r command.Check asked comes
+
+module _ (names : Names) (shelf : ShelfSeen) (told : IsTrue shelf.tells) (fine : ¬ ShelfFailed shelf) (inputs : Inputs) (file : CertificateFile)
+    (given : domain_inputs names shelf (Ok inputs)) (read : certificate_read names shelf (Ok file)) where
+  -- what is told is of these inputs and this file
+  told_same : (work : Work) → check_work names shelf (Ok work) → IsVerdictTold inputs file work.verdict
+  told_same work h =
+      let i = (inputs_once names shelf told fine).both h.2.2.0 inputs (h.0, h.1, h.2.2.1) given in
+      let f = (certificate_once names shelf told fine).both h.2.0 file h.2.1 read in
+      subst (λ (x : Inputs). IsVerdictTold x file work.verdict) i (subst (λ (x : CertificateFile). IsVerdictTold h.2.2.0 x work.verdict) f (told_of h.2.2.0 h.2.0 work h.2.2.2))
+
+  -- where there are inputs and a certificate, no step of the check refuses
+  past_file_refused : (d : RunDocuments) → run_documents names shelf (Ok d) → (other : CertificateFile) (fault : Fault) → past_file names shelf d other (Err fault) → IsMemory fault
+  past_file_refused d r other fault (inl e) = (inputs_once names shelf told fine).given inputs fault given (inr (d, r, e))
+  past_file_refused d r other fault (inr h) = elim h.2 [ inl none ↦ absurd none | inr m ↦ m ]
+
+  past_documents_refused : (d : RunDocuments) → run_documents names shelf (Ok d) → (fault : Fault) → past_documents names shelf d (Err fault) → IsMemory fault
+  past_documents_refused d r fault (inl e) = (certificate_once names shelf told fine).given file fault read e
+  past_documents_refused d r fault (inr h) = past_file_refused d r h.0 fault h.2
+
+  check_refused : (fault : Fault) → check_work names shelf (Err fault) → IsMemory fault
+  check_refused fault (inl e) = (documents_once names shelf told fine).given given.0 fault given.1 e
+  check_refused fault (inr h) = past_documents_refused h.0 h.1 fault h.2
+
+pub verifies : (words : List (List ℕ)) (shelf : ShelfSeen) (out : SinkSeen) (answer : Option Fault) → IsCaused words shelf out answer → Verifies words shelf out answer
+verifies words shelf out answer (inl m) inputs file asked given read told fine put = absurd (m.refused (record { command = command.Check; asked = asked }))
+verifies words shelf out answer (inr (inl d)) inputs file asked given read told fine put =
+    inl (subst (λ (a : Option Fault). IsVerdictTold inputs file a) (sym d.is)
+    (told_same (name_given words) shelf told fine inputs file given read d.work (check_steps words shelf (Ok d.work) asked d.comes)))
+verifies words shelf out answer (inr (inr (inl r))) inputs file asked given read told fine put =
+    inr (memory_answer answer r.fault r.is (check_refused (name_given words) shelf told fine inputs file given read r.fault (check_steps words shelf (Err r.fault) asked r.comes)))
+verifies words shelf out answer (inr (inr (inr (inl u)))) inputs file asked given read told fine put = absurd (put u.put.0)
+verifies words shelf out answer (inr (inr (inr (inr s)))) inputs file asked given read told fine put = inr s.is
+
+accepted_put : (words : List (List ℕ)) (shelf : ShelfSeen) (out : SinkSeen) (work : Work) → check_work (name_given words) shelf (Ok work) → work.verdict ≡ None → Took out work.text
+    → IsCertificateAccepted words shelf out
+accepted_put words shelf out work h none put = elim h.2.2.2 [
+  | inl a ↦ record {
+    inputs = h.2.2.0;
+    said = (h.0, h.1, h.2.2.1);
+    file = h.2.0;
+    read = h.2.1;
+    accepted = a.accepted;
+    sound = a.sound;
+    put = subst (λ (text : List ℕ). Took out text) a.text put;
+  }
+  | inr r ↦ absurd (let e = r.verdict in cc)
+]
+
+pub checks_capacity : (words : List (List ℕ)) (shelf : ShelfSeen) (out : SinkSeen) (answer : Option Fault) → IsCaused words shelf out answer → ChecksCapacity words shelf out answer
+checks_capacity words shelf out answer (inl m) asked none = absurd (m.refused (record { command = command.Check; asked = asked }))
+checks_capacity words shelf out answer (inr (inl d)) asked none = accepted_put words shelf out d.work (check_steps words shelf (Ok d.work) asked d.comes) (sym d.is ∙ none) d.put
+checks_capacity words shelf out answer (inr (inr (inl r))) asked none = absurd (let e = r.is in cc)
+checks_capacity words shelf out answer (inr (inr (inr (inl u)))) asked none = absurd (let e = u.is in cc)
+checks_capacity words shelf out answer (inr (inr (inr (inr s)))) asked none = absurd (subst IsOutOfMemory none s.is)
+
+-- ---- A generated case
+
+summary_put : (number nodes : ℕ) (out : SinkSeen) (work : Work) → selftest_work number nodes (Ok work) → Took out work.text → IsSummaryPut number nodes out
+summary_put number nodes out work h put = record {
+  inputs = h.0;
+  said = h.1;
+  certificate = h.2.certificate;
+  sound = h.2.sound;
+  thin = h.2.thin;
+  put = subst (λ (text : List ℕ). Took out text) h.2.text put;
+}
+
+pub prints_summary : (words : List (List ℕ)) (shelf : ShelfSeen) (out : SinkSeen) (answer : Option Fault) → IsCaused words shelf out answer → PrintsSummary words out answer
+prints_summary words shelf out answer (inl m) number nodes asked none = absurd (m.refused (record { command = command.Selftest number nodes; asked = asked }))
+prints_summary words shelf out answer (inr (inl d)) number nodes asked none =
+    summary_put number nodes out d.work (steps_same words shelf (Ok d.work) (command.Selftest number nodes) asked d.comes) d.put
+prints_summary words shelf out answer (inr (inr (inl r))) number nodes asked none = absurd (let e = r.is in cc)
+prints_summary words shelf out answer (inr (inr (inr (inl u)))) number nodes asked none = absurd (let e = u.is in cc)
+prints_summary words shelf out answer (inr (inr (inr (inr s)))) number nodes asked none = absurd (subst IsOutOfMemory none s.is)

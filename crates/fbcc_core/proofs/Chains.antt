@@ -1,5 +1,5 @@
 -- Steps one after another, and steps that are seen over a part of a call.
-use Rattle.std.proofs.Common.{◌≡◌, ℕ, ◌≤◌, Bool, List, inl, inr, refl, sym, subst, ◌∙◌, arith}
+use Rattle.std.proofs.Common.{◌≡◌, ℕ, ◌≤◌, Bool, List, [], inl, inr, refl, sym, subst, ◌∙◌, arith}
 use Rattle.std.specs.Prelude.{Option, Result, Ok, Err, IsTrue}
 use Rattle.serde_json.specs.Data.{Data}
 use Rattle.fb_base.specs.Counts.{Rose}
@@ -12,13 +12,17 @@ use Rattle.run_settings.specs.declared.reduction.Reduction.{Reduction}
 use Rattle.glsk_keys.specs.declared.model.Keys.{Keys}
 use Rattle.rows_document.specs.declared.reader.RowsDocument.{RowsDocument}
 use Rattle.fb_certificate.specs.declared.types.Inputs.{Inputs}
-use Rattle.fbcc_core.specs.Commands.{judges, rows_work, nets, net_work, puts_together, domain_inputs, computes, domain_work}
+use Rattle.case_maker.specs.CaseTexts.{IsCase}
+use Rattle.case_maker.specs.declared.Case.{Case}
+use Rattle.fbcc_core.specs.Commands.{case_inputs, tests, selftest_work, judges, rows_work, nets, net_work, puts_together, domain_inputs, computes, domain_work, checks, check_work}
+use Rattle.fbcc_core.specs.declared.documents.CertificateFile.{CertificateFile}
+use Rattle.fbcc_core.specs.declared.documents.RunDocuments.{RunDocuments}
 use Rattle.fbcc_core.specs.declared.paper.Paper.{Paper}
 use Rattle.fbcc_core.specs.declared.work.Work.{Work}
-use Rattle.fbcc_core.specs.Reading.{reads_rows, IsGiven, IsUnread, IsLonger, fetched, tree_read, reads_tree, grid_read, reads_grid, crac_read, reads_crac, settings_read, reads_settings, keys_read, reads_keys, reductions_read, reads_reductions}
+use Rattle.fbcc_core.specs.Reading.{reads_rows, IsGiven, IsUnread, IsLonger, fetched, tree_read, reads_tree, grid_read, reads_grid, crac_read, reads_crac, settings_read, reads_settings, keys_read, reads_keys, reductions_read, reads_reductions, run_documents, certificate_read, reads_certificate, crac_said, settings_said, keys_said, case_documents}
 use Rattle.fbcc_core.specs.Seen.{ShelfSeen, shelf_seen}
-use Rattle.fbcc_core.specs.Statuses.{limit}
-use Rattle.fbcc_core.specs.Steps.{Step, after}
+use Rattle.fbcc_core.specs.Statuses.{limit_of}
+use Rattle.fbcc_core.specs.Steps.{Step, step, after, gives}
 use Rattle.fbcc_core.specs.Words.{Names}
 use Rattle.fbcc_core.specs.declared.answer.Document.{Document}
 use Rattle.fbcc_core.specs.declared.answer.Document.TheVariants as document
@@ -54,49 +58,145 @@ module _ (names : Names) (shelf : ShelfSeen) where
   pub net_joined : (grid : Grid) (r : Result Work Fault) → grid_read names shelf (Ok grid) → nets grid r → net_work names shelf r
   net_joined grid r = joined (grid_read names shelf) nets grid r
 
-  pub domain_joined : (paper : Paper) (inputs : Inputs) (r : Result Work Fault) → domain_inputs names shelf (Ok inputs) → computes paper inputs r → domain_work paper names shelf r
-  domain_joined paper inputs r = joined (domain_inputs names shelf) (computes paper) inputs r
+  -- the documents of a run one after another
+  abbrev pub past_reductions : Grid → Crac → Settings → Keys → List Reduction → Step RunDocuments
+  past_reductions grid crac settings keys reductions = gives (record { grid = grid; crac = crac; settings = settings; keys = keys; reductions = reductions })
 
-  -- the documents of a domain one after another, and then the states
-  abbrev pub past_keys : Grid → Crac → Settings → Keys → Step Inputs
-  past_keys grid crac settings keys = after (reductions_read names shelf crac) (λ reductions. puts_together grid crac settings keys reductions)
+  abbrev pub past_keys : Grid → Crac → Settings → Keys → Step RunDocuments
+  past_keys grid crac settings keys = after (reductions_read names shelf crac) (past_reductions grid crac settings keys)
 
-  abbrev pub past_settings : Grid → Crac → Settings → Step Inputs
+  abbrev pub past_settings : Grid → Crac → Settings → Step RunDocuments
   past_settings grid crac settings = after (keys_read names shelf grid settings) (past_keys grid crac settings)
 
-  abbrev pub past_crac : Grid → Crac → Step Inputs
+  abbrev pub past_crac : Grid → Crac → Step RunDocuments
   past_crac grid crac = after (settings_read names shelf grid) (past_settings grid crac)
 
-  abbrev pub past_grid : Grid → Step Inputs
+  abbrev pub past_grid : Grid → Step RunDocuments
   past_grid grid = after (crac_read names shelf grid) (past_crac grid)
 
-  pub inputs_joined : (grid : Grid) (crac : Crac) (settings : Settings) (keys : Keys) (reductions : List Reduction) (r : Result Inputs Fault)
-      → grid_read names shelf (Ok grid) → crac_read names shelf grid (Ok crac) → settings_read names shelf grid (Ok settings) → keys_read names shelf grid settings (Ok keys)
-      → reductions_read names shelf crac (Ok reductions) → puts_together grid crac settings keys reductions r → domain_inputs names shelf r
-  inputs_joined grid crac settings keys reductions r g c s k q p =
-      joined (grid_read names shelf) past_grid grid r g
-      (joined (crac_read names shelf grid) (past_crac grid) crac r c
-      (joined (settings_read names shelf grid) (past_settings grid crac) settings r s
-      (joined (keys_read names shelf grid settings) (past_keys grid crac settings) keys r k
-      (joined (reductions_read names shelf crac) (puts_together grid crac settings keys) reductions r q p))))
+  pub documents_joined : (d : RunDocuments)
+      → grid_read names shelf (Ok d.grid) → crac_read names shelf d.grid (Ok d.crac) → settings_read names shelf d.grid (Ok d.settings) → keys_read names shelf d.grid d.settings (Ok d.keys)
+      → reductions_read names shelf d.crac (Ok d.reductions) → run_documents names shelf (Ok d)
+  documents_joined d g c s k q =
+      joined (grid_read names shelf) past_grid d.grid (Ok d) g
+      (joined (crac_read names shelf d.grid) (past_crac d.grid) d.crac (Ok d) c
+      (joined (settings_read names shelf d.grid) (past_settings d.grid d.crac) d.settings (Ok d) s
+      (joined (keys_read names shelf d.grid d.settings) (past_keys d.grid d.crac d.settings) d.keys (Ok d) k
+      (joined (reductions_read names shelf d.crac) (past_reductions d.grid d.crac d.settings d.keys) d.reductions (Ok d) q refl))))
 
   -- a document that is refused ends the chain
-  pub crac_refused : (grid : Grid) (fault : Fault) → grid_read names shelf (Ok grid) → crac_read names shelf grid (Err fault) → domain_inputs names shelf (Err fault)
+  pub crac_refused : (grid : Grid) (fault : Fault) → grid_read names shelf (Ok grid) → crac_read names shelf grid (Err fault) → run_documents names shelf (Err fault)
   crac_refused grid fault g e = inr (grid, g, inl e)
 
-  pub settings_refused : (grid : Grid) (crac : Crac) (fault : Fault) → grid_read names shelf (Ok grid) → crac_read names shelf grid (Ok crac) → settings_read names shelf grid (Err fault) → domain_inputs names shelf (Err fault)
+  pub settings_refused : (grid : Grid) (crac : Crac) (fault : Fault) → grid_read names shelf (Ok grid) → crac_read names shelf grid (Ok crac) → settings_read names shelf grid (Err fault) → run_documents names shelf (Err fault)
   settings_refused grid crac fault g c e = inr (grid, g, inr (crac, c, inl e))
 
   pub keys_refused : (grid : Grid) (crac : Crac) (settings : Settings) (fault : Fault) → grid_read names shelf (Ok grid) → crac_read names shelf grid (Ok crac) → settings_read names shelf grid (Ok settings)
-      → keys_read names shelf grid settings (Err fault) → domain_inputs names shelf (Err fault)
+      → keys_read names shelf grid settings (Err fault) → run_documents names shelf (Err fault)
   keys_refused grid crac settings fault g c s e = inr (grid, g, inr (crac, c, inr (settings, s, inl e)))
 
   pub reductions_refused : (grid : Grid) (crac : Crac) (settings : Settings) (keys : Keys) (fault : Fault) → grid_read names shelf (Ok grid) → crac_read names shelf grid (Ok crac) → settings_read names shelf grid (Ok settings)
-      → keys_read names shelf grid settings (Ok keys) → reductions_read names shelf crac (Err fault) → domain_inputs names shelf (Err fault)
+      → keys_read names shelf grid settings (Ok keys) → reductions_read names shelf crac (Err fault) → run_documents names shelf (Err fault)
   reductions_refused grid crac settings keys fault g c s k e = inr (grid, g, inr (crac, c, inr (settings, s, inr (keys, k, inl e))))
 
-  pub inputs_refused : (paper : Paper) (fault : Fault) → domain_inputs names shelf (Err fault) → domain_work paper names shelf (Err fault)
-  inputs_refused paper fault e = inl e
+  pub certificate_joined : (bytes : List ℕ) (r : Result CertificateFile Fault) → fetched names shelf document.Certificate (Ok bytes) → reads_certificate bytes r → certificate_read names shelf r
+  certificate_joined bytes r = joined (fetched names shelf document.Certificate) reads_certificate bytes r
+
+  -- inputs of the documents, and a domain of them
+  pub inputs_joined : (d : RunDocuments) (inputs : Inputs) → run_documents names shelf (Ok d) → puts_together d (Ok inputs) → domain_inputs names shelf (Ok inputs)
+  inputs_joined d inputs = joined (run_documents names shelf) puts_together d (Ok inputs)
+
+  pub domain_unread : (paper : Paper) (fault : Fault) → run_documents names shelf (Err fault) → domain_work paper names shelf (Err fault)
+  domain_unread paper fault e = inl (inl e)
+
+  pub domain_refused : (paper : Paper) (d : RunDocuments) (fault : Fault) → run_documents names shelf (Ok d) → puts_together d (Err fault) → domain_work paper names shelf (Err fault)
+  domain_refused paper d fault r e = inl (inr (d, r, e))
+
+  pub domain_joined : (paper : Paper) (d : RunDocuments) (inputs : Inputs) (r : Result Work Fault) → run_documents names shelf (Ok d) → puts_together d (Ok inputs) → computes paper inputs r → domain_work paper names shelf r
+  domain_joined paper d inputs r given put = joined (domain_inputs names shelf) (computes paper) inputs r (inputs_joined d inputs given put)
+
+  -- the check of a certificate
+  abbrev pub past_file : RunDocuments → CertificateFile → Step Work
+  past_file d file = after (puts_together d) (λ inputs. checks inputs file)
+
+  abbrev pub past_documents : RunDocuments → Step Work
+  past_documents d = after (certificate_read names shelf) (past_file d)
+
+  pub check_joined : (d : RunDocuments) (file : CertificateFile) (inputs : Inputs) (r : Result Work Fault)
+      → run_documents names shelf (Ok d) → certificate_read names shelf (Ok file) → puts_together d (Ok inputs) → checks inputs file r → check_work names shelf r
+  check_joined d file inputs r given read put judged =
+      joined (run_documents names shelf) past_documents d r given
+      (joined (certificate_read names shelf) (past_file d) file r read
+      (joined (puts_together d) (λ inputs. checks inputs file) inputs r put judged))
+
+  pub check_unread : (fault : Fault) → run_documents names shelf (Err fault) → check_work names shelf (Err fault)
+  check_unread fault e = inl e
+
+  pub file_refused : (d : RunDocuments) (fault : Fault) → run_documents names shelf (Ok d) → certificate_read names shelf (Err fault) → check_work names shelf (Err fault)
+  file_refused d fault given e = inr (d, given, inl e)
+
+  pub check_refused : (d : RunDocuments) (file : CertificateFile) (fault : Fault) → run_documents names shelf (Ok d) → certificate_read names shelf (Ok file) → puts_together d (Err fault) → check_work names shelf (Err fault)
+  check_refused d file fault given read e = inr (d, given, inr (file, read, inl e))
+
+-- ---- A generated case
+
+pub crac_said_joined : (text : List ℕ) (grid : Grid) (tree : Data) (r : Result Crac Fault) → reads_tree document.Crac text (Ok tree) → reads_crac grid tree r → crac_said text grid r
+crac_said_joined text grid tree r = joined (reads_tree document.Crac text) (reads_crac grid) tree r
+
+pub settings_said_joined : (text : List ℕ) (grid : Grid) (tree : Data) (r : Result Settings Fault) → reads_tree document.Settings text (Ok tree) → reads_settings grid tree r → settings_said text grid r
+settings_said_joined text grid tree r = joined (reads_tree document.Settings text) (reads_settings grid) tree r
+
+pub keys_said_joined : (text : List ℕ) (grid : Grid) (settings : Settings) (tree : Data) (r : Result Keys Fault) → reads_tree document.Glsk text (Ok tree) → reads_keys grid settings tree r → keys_said text grid settings r
+keys_said_joined text grid settings tree r = joined (reads_tree document.Glsk text) (reads_keys grid settings) tree r
+
+module _ (case : Case) where
+  abbrev pub past_keys_said : Grid → Crac → Settings → Keys → Step RunDocuments
+  past_keys_said grid crac settings keys = gives (record { grid = grid; crac = crac; settings = settings; keys = keys; reductions = [] })
+
+  abbrev pub past_settings_said : Grid → Crac → Settings → Step RunDocuments
+  past_settings_said grid crac settings = after (keys_said case.glsk grid settings) (past_keys_said grid crac settings)
+
+  abbrev pub past_crac_said : Grid → Crac → Step RunDocuments
+  past_crac_said grid crac = after (settings_said case.settings grid) (past_settings_said grid crac)
+
+  abbrev pub past_grid_said : Grid → Step RunDocuments
+  past_grid_said grid = after (crac_said case.crac grid) (past_crac_said grid)
+
+  pub case_joined : (d : RunDocuments) → d.reductions ≡ [] → reads_grid case.grid (Ok d.grid) → crac_said case.crac d.grid (Ok d.crac) → settings_said case.settings d.grid (Ok d.settings)
+      → keys_said case.glsk d.grid d.settings (Ok d.keys) → case_documents case (Ok d)
+  case_joined d none g c s k =
+      joined (reads_grid case.grid) past_grid_said d.grid (Ok d) g
+      (joined (crac_said case.crac d.grid) (past_crac_said d.grid) d.crac (Ok d) c
+      (joined (settings_said case.settings d.grid) (past_settings_said d.grid d.crac) d.settings (Ok d) s
+      (joined (keys_said case.glsk d.grid d.settings) (past_keys_said d.grid d.crac d.settings) d.keys (Ok d) k
+      (λ i. record { grid = d.grid; crac = d.crac; settings = d.settings; keys = d.keys; reductions = none i }))))
+
+  pub case_crac_refused : (grid : Grid) (fault : Fault) → reads_grid case.grid (Ok grid) → crac_said case.crac grid (Err fault) → case_documents case (Err fault)
+  case_crac_refused grid fault g e = inr (grid, g, inl e)
+
+  pub case_settings_refused : (grid : Grid) (crac : Crac) (fault : Fault) → reads_grid case.grid (Ok grid) → crac_said case.crac grid (Ok crac) → settings_said case.settings grid (Err fault) → case_documents case (Err fault)
+  case_settings_refused grid crac fault g c e = inr (grid, g, inr (crac, c, inl e))
+
+  pub case_keys_refused : (grid : Grid) (crac : Crac) (settings : Settings) (fault : Fault) → reads_grid case.grid (Ok grid) → crac_said case.crac grid (Ok crac) → settings_said case.settings grid (Ok settings)
+      → keys_said case.glsk grid settings (Err fault) → case_documents case (Err fault)
+  case_keys_refused grid crac settings fault g c s e = inr (grid, g, inr (crac, c, inr (settings, s, inl e)))
+
+module _ (number nodes : ℕ) where
+  abbrev pub past_case : Case → Step Inputs
+  past_case case = after (case_documents case) puts_together
+
+  pub case_inputs_joined : (case : Case) (d : RunDocuments) (r : Result Inputs Fault) → IsCase number nodes case → case_documents case (Ok d) → puts_together d r → case_inputs number nodes r
+  case_inputs_joined case d r made given put =
+      joined (step (IsCase number nodes) (λ fault. ⊥)) past_case case r made (joined (case_documents case) puts_together d r given put)
+
+  pub case_refused : (case : Case) (fault : Fault) → IsCase number nodes case → case_documents case (Err fault) → case_inputs number nodes (Err fault)
+  case_refused case fault made e = inr (case, made, inl e)
+
+  pub selftest_joined : (inputs : Inputs) (r : Result Work Fault) → case_inputs number nodes (Ok inputs) → tests number nodes inputs r → selftest_work number nodes r
+  selftest_joined inputs r = joined (case_inputs number nodes) (tests number nodes) inputs r
+
+  pub selftest_refused : (fault : Fault) → case_inputs number nodes (Err fault) → selftest_work number nodes (Err fault)
+  selftest_refused fault e = inl e
 
 -- the first step is carried over to another
 pub carried_ok : {A B : Type 0} (first other : Step A) (next : A → Step B) → ((a : A) → first (Ok a) → other (Ok a)) → (b : B) → after first next (Ok b) → after other next (Ok b)
@@ -181,6 +281,32 @@ module _ (names : Names) (part whole : ShelfSeen) (is : IsPart part whole) where
   reductions_part crac reductions (inr h) =
       inr (carried_ok (fetched names part document.Reductions) (fetched names whole document.Reductions) (reads_reductions crac) (given_part document.Reductions) reductions h)
 
+  pub documents_part : (d : RunDocuments) → run_documents names part (Ok d) → run_documents names whole (Ok d)
+  documents_part d h = (
+    h.0,
+    grid_part h.0 h.1,
+    (
+      h.2.0,
+      crac_part h.0 h.2.0 h.2.1,
+      (
+        h.2.2.0,
+        settings_part h.0 h.2.2.0 h.2.2.1,
+        (
+          h.2.2.2.0,
+          keys_part h.0 h.2.2.0 h.2.2.2.0 h.2.2.2.1,
+          (
+            h.2.2.2.2.0,
+            reductions_part h.2.0 h.2.2.2.2.0 h.2.2.2.2.1,
+            h.2.2.2.2.2,
+          ),
+        ),
+      ),
+    ),
+  )
+
+  pub certificate_part : (file : CertificateFile) → certificate_read names part (Ok file) → certificate_read names whole (Ok file)
+  certificate_part file = carried_ok (fetched names part document.Certificate) (fetched names whole document.Certificate) reads_certificate (given_part document.Certificate) file
+
 module _ (names : Names) (part whole : ShelfSeen) (ends : IsEnd part whole) where
   unread_end : (d : Document) (fault : Fault) → IsUnread names part d fault → IsUnread names whole d fault
   unread_end d fault u = record {
@@ -196,7 +322,7 @@ module _ (names : Names) (part whole : ShelfSeen) (ends : IsEnd part whole) wher
     is = l.is;
     name = l.name;
     named = l.named;
-    told = λ t. subst (λ (held : Documents). HasMoreThan held l.name limit) ends.is_part.documents (l.told (subst IsTrue (sym ends.is_part.tells) t));
+    told = λ t. subst (λ (held : Documents). HasMoreThan held l.name (limit_of d)) ends.is_part.documents (l.told (subst IsTrue (sym ends.is_part.tells) t));
   }
 
   fetched_end : (d : Document) (fault : Fault) → fetched names part d (Err fault) → fetched names whole d (Err fault)
@@ -225,3 +351,7 @@ module _ (names : Names) (part whole : ShelfSeen) (ends : IsEnd part whole) wher
   reductions_end crac fault (inl h) = absurd (no_fault _ fault h.1)
   reductions_end crac fault (inr h) =
       inr (carried_err (fetched names part document.Reductions) (fetched names whole document.Reductions) (reads_reductions crac) (given_part names part whole ends.is_part document.Reductions) (fetched_end document.Reductions) fault h)
+
+  pub certificate_end : (fault : Fault) → certificate_read names part (Err fault) → certificate_read names whole (Err fault)
+  certificate_end fault =
+      carried_err (fetched names part document.Certificate) (fetched names whole document.Certificate) reads_certificate (given_part names part whole ends.is_part document.Certificate) (fetched_end document.Certificate) fault

@@ -2,7 +2,10 @@ pub mod Agreement
 pub mod Answered
 pub mod Asking
 pub mod Chains
+pub mod Checking
 pub mod GridSame
+pub mod NoUsage
 pub mod OneAnswer
 pub mod OutputPieces
 pub mod PutCauses
+pub mod SameInputs

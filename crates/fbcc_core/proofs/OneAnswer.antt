@@ -14,7 +14,7 @@ use Rattle.ucte_reader.specs.declared.kind.GridKind.{GridKind}
 use Rattle.ucte_reader.specs.declared.kind.GridError.TheVariants as grid_error
 use Rattle.ucte_reader.proofs.GridLaws.{fault_from}
 use Rattle.crac_model.specs.Crac.{crac_of}
-use Rattle.run_settings.specs.Settings.{Said, settings_of}
+use Rattle.run_settings.specs.Settings.{settings_of}
 use Rattle.run_settings.specs.Reductions.{row_fault, document_rows}
 use Rattle.run_settings.specs.Views.{said}
 use Rattle.run_settings.specs.declared.model.Settings.{Settings}
@@ -30,13 +30,21 @@ use Rattle.fb_certificate.specs.declared.types.Inputs.{Inputs}
 use Rattle.run_inputs.specs.Refusals.{IsRefused}
 use Rattle.run_inputs.specs.declared.InputsError.{InputsError}
 use Rattle.run_inputs.specs.declared.InputsError.TheVariants as refusal
-use Rattle.fbcc_core.specs.Commands.{IsYes, IsNo, judges, rows_work, nets, net_work, AreInputs, fault_of, puts_together, domain_inputs, computes, domain_work, work_of}
-use Rattle.fbcc_core.specs.Reading.{IsGiven, IsUnread, IsLonger, fetched, reads_grid, reads_tree, reads_crac, reads_settings, reads_keys, reads_reductions, reads_rows, grid_read, tree_read, crac_read, settings_read, keys_read, reductions_read}
+use Rattle.case_maker.specs.CaseTexts.{IsCase}
+use Rattle.case_maker.specs.declared.Case.{Case}
+use Rattle.certificate_reader.specs.Reading.{IsReading as IsCertificate}
+use Rattle.certificate_reader.proofs.Beginnings.{first_bad_row_same}
+use Rattle.csv_rows.specs.Rows.{records_in}
+use Rattle.fbcc_core.specs.Causes.{answer_for}
+use Rattle.fbcc_core.specs.Commands.{IsYes, IsNo, judges, rows_work, nets, net_work, AreInputs, fault_of, puts_together, domain_inputs, computes, domain_work, IsAccepted, IsRejected, checks, check_work, case_inputs, tests, selftest_work, work_of}
+use Rattle.fbcc_core.specs.Reading.{IsGiven, IsUnread, IsLonger, fetched, reads_grid, reads_tree, reads_crac, reads_settings, reads_keys, reads_reductions, reads_rows, reads_certificate, grid_read, tree_read, crac_read, settings_read, keys_read, reductions_read, run_documents, certificate_read, crac_said, settings_said, keys_said, case_documents}
 use Rattle.fbcc_core.specs.Seen.{ShelfSeen, ShelfFailed}
-use Rattle.fbcc_core.specs.Statuses.{limit}
-use Rattle.fbcc_core.specs.Steps.{after, IsMemory}
+use Rattle.fbcc_core.specs.Statuses.{limit_of}
+use Rattle.fbcc_core.specs.Steps.{step, after, gives, IsMemory}
 use Rattle.fbcc_core.specs.Words.{Names}
 use Rattle.fbcc_core.specs.declared.answer.Document.{Document}
+use Rattle.fbcc_core.specs.declared.documents.CertificateFile.{CertificateFile}
+use Rattle.fbcc_core.specs.declared.documents.RunDocuments.{RunDocuments}
 use Rattle.fbcc_core.specs.declared.answer.Document.TheVariants as document
 use Rattle.fbcc_core.specs.declared.answer.Fault.{Fault}
 use Rattle.fbcc_core.specs.declared.answer.Fault.TheVariants.{GridFault, CracFault, SettingsFault, KeyFault, ReductionFault, CertificateFault}
@@ -46,16 +54,15 @@ use Rattle.fbcc_core.specs.declared.paper.Paper.TheVariants.{Table, Evidence, Re
 use Rattle.fbcc_core.specs.declared.request.Command.TheVariants as command
 use Rattle.fbcc_core.specs.declared.work.Work.{Work}
 use Rattle.fbcc_core.proofs.Agreement.{Agrees, after_agrees, step_agrees, from_same}
-use Rattle.fbcc_core.proofs.Chains.{past_keys, past_settings, past_crac, past_grid}
+use Rattle.fbcc_core.proofs.Chains.{past_reductions, past_keys, past_settings, past_crac, past_grid, past_file, past_documents, past_keys_said, past_settings_said, past_crac_said, past_grid_said, past_case}
+use Rattle.fbcc_core.proofs.Checking.{told_of, verdict_is_one, reading_is_one}
 use Rattle.fbcc_core.proofs.GridSame.{grid_same}
+use Rattle.fbcc_core.proofs.SameInputs.{settings_same, inputs_same}
 use Rattle.run_inputs.specs.RefusalLaws.{refused_once, refused_not_whole}
 use Rattle.run_inputs.specs.Refusals.{IsMemory as LacksMemory}
 
 abbrev pub Same : {A : Type 0} → A → A → Type 0
 Same a b = a ≡ b
-
-abbrev pub Any : {A : Type 0} → A → A → Type 0
-Any a b = Unit {0}
 
 -- ---- What is fetched
 
@@ -73,8 +80,8 @@ module _ (names : Names) (shelf : ShelfSeen) (told : IsTrue shelf.tells) (fine :
   not_longer d a fault g l =
       let same_name : l.name ≡ g.name = same_Some l.name g.name (sym l.named ∙ g.named) in
       let held : get shelf.documents l.name ≡ Some a = ap (get shelf.documents) same_name ∙ g.told told in
-      let more : limit < length a = more_of (get shelf.documents l.name) a limit held (l.told told) in
-      let within : length a ≤ limit = g.within in
+      let more : limit_of d < length a = more_of (get shelf.documents l.name) a (limit_of d) held (l.told told) in
+      let within : length a ≤ limit_of d = g.within in
       omega arith
 
   not_refused : (d : Document) (a : List ℕ) (fault : Fault) → IsGiven names shelf d a → IsUnread names shelf d fault ⊎ IsLonger names shelf d fault → ⊥
@@ -129,40 +136,47 @@ reads_crac_once grid tree =
     (λ f b s t. absurd (no_both read b _ t s.3))
     (λ f g s t. inl (s.2 ∙ ap (λ e. CracFault e.place e.kind) (err_same read (record { place = s.0; kind = s.1 }) (record { place = t.0; kind = t.1 }) s.3 t.3) ∙ sym t.2))
 
--- settings that say the same
-abbrev pub SaySame : Settings → Settings → Type 0
-SaySame s t = said s ≡ said t
-
-reads_settings_once : (grid : Grid) (tree : Data) → Agrees SaySame (reads_settings grid tree) (reads_settings grid tree)
+reads_settings_once : (grid : Grid) (tree : Data) → Agrees Same (reads_settings grid tree) (reads_settings grid tree)
 reads_settings_once grid tree =
     let read = settings_of grid.nodes tree in
-    step_agrees SaySame _ _ _ _
-    (λ a b s t. ok_same read (said a) (said b) s t)
+    step_agrees Same _ _ _ _
+    (λ a b s t. settings_same a b (ok_same read (said a) (said b) s t))
     (λ a f s t. absurd (no_both read (said a) _ s t.3))
     (λ f b s t. absurd (no_both read (said b) _ t s.3))
     (λ f g s t. inl (s.2 ∙ ap (λ e. SettingsFault e.place e.kind) (err_same read (record { place = s.0; kind = s.1 }) (record { place = t.0; kind = t.1 }) s.3 t.3) ∙ sym t.2))
 
-reads_keys_once : (grid : Grid) (s t : Settings) → SaySame s t → (tree : Data) → Agrees Same (reads_keys grid s tree) (reads_keys grid t tree)
-reads_keys_once grid s t e tree =
-    let one = keys_of grid.nodes s.zones s.moment.nanosecond tree in
-    let other = keys_of grid.nodes t.zones t.moment.nanosecond tree in
-    let same : one ≡ other = ap (λ (w : Said). keys_of grid.nodes w.zones w.moment tree) e in
+reads_keys_once : (grid : Grid) (settings : Settings) (tree : Data) → Agrees Same (reads_keys grid settings tree) (reads_keys grid settings tree)
+reads_keys_once grid settings tree =
+    let read = keys_of grid.nodes settings.zones settings.moment.nanosecond tree in
     step_agrees Same _ _ _ _
-    (λ a b p q. ok_same one a b p (same ∙ q))
-    (λ a f p q. absurd (no_both one a _ p (same ∙ q.3)))
-    (λ f b p q. absurd (no_both one b _ (same ∙ q) p.3))
-    (λ f g p q. inl (p.2 ∙ ap (λ x. KeyFault x.place x.kind) (err_same one (record { place = p.0; kind = p.1 }) (record { place = q.0; kind = q.1 }) p.3 (same ∙ q.3)) ∙ sym q.2))
+    (λ a b s t. ok_same read a b s t)
+    (λ a f s t. absurd (no_both read a _ s t.3))
+    (λ f b s t. absurd (no_both read b _ t s.3))
+    (λ f g s t. inl (s.2 ∙ ap (λ e. KeyFault e.place e.kind) (err_same read (record { place = s.0; kind = s.1 }) (record { place = t.0; kind = t.1 }) s.3 t.3) ∙ sym t.2))
 
-reads_reductions_once : (crac : Crac) (bytes : List ℕ) → Agrees Any (reads_reductions crac bytes) (reads_reductions crac bytes)
+reads_reductions_once : (crac : Crac) (bytes : List ℕ) → Agrees Same (reads_reductions crac bytes) (reads_reductions crac bytes)
 reads_reductions_once crac bytes =
     let judge = row_fault crac.elements in
     let rows = document_rows bytes in
-    step_agrees Any _ _ _ _
-    (λ a b s t. tt)
+    step_agrees Same _ _ _ _
+    (λ a b s t. s.1 ∙ sym t.1)
     (λ a f s t. absurd (IsFirstFault-fault judge rows t.0 t.1 t.3 s.0))
     (λ f b s t. absurd (IsFirstFault-fault judge rows s.0 s.1 s.3 t.0))
     (λ f g s t. let e = IsFirstFault-same judge rows s.0 t.0 s.1 t.1 s.3 t.3 in
     inl (s.2 ∙ ap (λ (n : ℕ). ReductionFault n s.1) e.0 ∙ ap (λ (k : ReductionKind). ReductionFault t.0 k) e.1 ∙ sym t.2))
+
+files_same : (bytes : List ℕ) (a b : CertificateFile) → (a.bytes ≡ bytes) × IsCertificate bytes a.certificate → (b.bytes ≡ bytes) × IsCertificate bytes b.certificate → a ≡ b
+files_same bytes a b s t = λ k. record {
+  bytes = (s.0 ∙ sym t.0) k;
+  certificate = reading_is_one (records_in bytes) a.certificate b.certificate s.1 t.1 k;
+}
+
+reads_certificate_once : (bytes : List ℕ) → Agrees Same (reads_certificate bytes) (reads_certificate bytes)
+reads_certificate_once bytes = step_agrees Same _ _ _ _
+    (files_same bytes)
+    (λ a f s t. absurd (t.2.unread a.certificate s.1))
+    (λ f b s t. absurd (s.2.unread b.certificate t.1))
+    (λ f g s t. inl (s.1 ∙ ap (λ (n : ℕ). CertificateFault n) (first_bad_row_same (records_in bytes) s.0 t.0 s.2 t.2) ∙ sym t.1))
 
 reads_rows_once : (bytes : List ℕ) → Agrees Same (reads_rows bytes) (reads_rows bytes)
 reads_rows_once bytes = step_agrees Same _ _ _ _
@@ -189,8 +203,18 @@ judges_once d = step_agrees JudgeSame _ _ _ _ (judged_same d) (λ a f s t. absur
 nets_once : (grid : Grid) → Agrees JudgeSame (nets grid) (nets grid)
 nets_once grid = step_agrees JudgeSame _ _ _ _ (λ v w s t. s.verdict ∙ sym t.verdict) (λ a f s t. absurd t) (λ f b s t. absurd s) (λ f g s t. absurd s)
 
-computes_once : (paper : Paper) (i j : Inputs) → Agrees JudgeSame (computes paper i) (computes paper j)
-computes_once paper i j = step_agrees JudgeSame _ _ _ _ (λ v w s t. s.verdict ∙ sym t.verdict) (λ a f s t. absurd t) (λ f b s t. absurd s) (λ f g s t. absurd s)
+computes_once : (paper : Paper) (inputs : Inputs) → Agrees JudgeSame (computes paper inputs) (computes paper inputs)
+computes_once paper inputs = step_agrees JudgeSame _ _ _ _ (λ v w s t. s.verdict ∙ sym t.verdict) (λ a f s t. absurd t) (λ f b s t. absurd s) (λ f g s t. absurd s)
+
+-- works that say the same of a file
+checked_same : (inputs : Inputs) (file : CertificateFile) (v w : Work) → IsAccepted inputs file v ⊎ IsRejected inputs file v → IsAccepted inputs file w ⊎ IsRejected inputs file w → v.verdict ≡ w.verdict
+checked_same inputs file v w s t =
+    let a = told_of inputs file v s in
+    let b = told_of inputs file w t in
+    a.told ∙ ap answer_for (verdict_is_one inputs file.bytes file.certificate a.verdict b.verdict a.is b.is) ∙ sym b.told
+
+checks_once : (inputs : Inputs) (file : CertificateFile) → Agrees JudgeSame (checks inputs file) (checks inputs file)
+checks_once inputs file = step_agrees JudgeSame _ _ _ _ (checked_same inputs file) (λ a f s t. absurd t) (λ f b s t. absurd s) (λ f g s t. absurd s)
 
 -- ---- Grid states
 
@@ -200,19 +224,15 @@ memory_told (refusal.SplitGrid state node) m = absurd m
 memory_told (refusal.RangeExceeded state) m = absurd m
 memory_told (refusal.Memory e) m = (e, refl)
 
-module _ (grid : Grid) (crac : Crac) (s t : Settings) (e : SaySame s t) (keys : Keys) where
-  slack_same : s.slack ≡ t.slack
-  slack_same = ap (λ (w : Said). w.slack) e
-
+module _ (d : RunDocuments) where
   -- where there are inputs, only want of memory is a refusal
-  whole_memory : (named : Option ℕ) (settings : Settings) (reductions : List Reduction) (inputs : Inputs) (f : Fault) → settings.slack ≡ named → AreInputs grid crac settings keys reductions inputs
-      → (x : InputsError) → IsRefused grid crac named keys.columns x → f ≡ fault_of x → IsMemory f
-  whole_memory named settings reductions inputs f slack are x refused is =
+  whole_memory : (inputs : Inputs) (f : Fault) → AreInputs d inputs → (x : InputsError) → IsRefused d.grid d.crac d.settings.slack d.keys.columns x → f ≡ fault_of x → IsMemory f
+  whole_memory inputs f are x refused is =
       let here : IsRefused inputs.grid inputs.crac inputs.settings.slack inputs.keys.columns x =
       subst (λ (g : Grid). IsRefused g inputs.crac inputs.settings.slack inputs.keys.columns x) (sym are.grid_is)
-      (subst (λ (c : Crac). IsRefused grid c inputs.settings.slack inputs.keys.columns x) (sym are.crac_is)
-      (subst (λ (o : Option ℕ). IsRefused grid crac o inputs.keys.columns x) (sym (ap (λ (v : Settings). v.slack) are.settings_are ∙ slack))
-      (subst (λ (k : Keys). IsRefused grid crac named k.columns x) (sym are.keys_are) refused))) in
+      (subst (λ (c : Crac). IsRefused d.grid c inputs.settings.slack inputs.keys.columns x) (sym are.crac_is)
+      (subst (λ (s : Settings). IsRefused d.grid d.crac s.slack inputs.keys.columns x) (sym are.settings_are)
+      (subst (λ (k : Keys). IsRefused d.grid d.crac d.settings.slack k.columns x) (sym are.keys_are) refused))) in
       subst IsMemory (sym is) (memory_told x (refused_not_whole inputs are.whole x here))
 
   told_once : (x y : InputsError) → (x ≡ y) ⊎ (LacksMemory x ⊎ LacksMemory y) → (f g : Fault) → f ≡ fault_of x → g ≡ fault_of y → (f ≡ g) ⊎ (IsMemory f ⊎ IsMemory g)
@@ -220,13 +240,72 @@ module _ (grid : Grid) (crac : Crac) (s t : Settings) (e : SaySame s t) (keys : 
   told_once x y (inr (inl m)) f g p q = inr (inl (subst IsMemory (sym p) (memory_told x m)))
   told_once x y (inr (inr m)) f g p q = inr (inr (subst IsMemory (sym q) (memory_told y m)))
 
-  puts_once : (q r : List Reduction) → Agrees Any (puts_together grid crac s keys q) (puts_together grid crac t keys r)
-  puts_once q r = step_agrees Any _ _ _ _
-      (λ i j a b. tt)
-      (λ i f a b. whole_memory t.slack s q i f slack_same a b.0 b.1 b.2)
-      (λ f j a b. whole_memory s.slack t r j f (sym slack_same) b a.0 a.1 a.2)
-      (λ f g a b. told_once a.0 b.0
-      (refused_once grid crac t.slack keys.columns a.0 b.0 (subst (λ (o : Option ℕ). IsRefused grid crac o keys.columns a.0) slack_same a.1) b.1) f g a.2 b.2)
+  pub puts_once : Agrees Same (puts_together d) (puts_together d)
+  puts_once = step_agrees Same _ _ _ _
+      (λ i j a b. inputs_same d i j a b)
+      (λ i f a b. whole_memory i f a b.0 b.1 b.2)
+      (λ f j a b. whole_memory j f b a.0 a.1 a.2)
+      (λ f g a b. told_once a.0 b.0 (refused_once d.grid d.crac d.settings.slack d.keys.columns a.0 b.0 a.1 b.1) f g a.2 b.2)
+
+gives_once : {A : Type 0} (a : A) → Agrees Same (gives a) (gives a)
+gives_once {A} a = step_agrees Same _ _ _ _ (λ b c s t. s ∙ sym t) (λ b f s t. absurd t) (λ f b s t. absurd s) (λ f g s t. absurd s)
+
+-- ---- A generated case
+
+cases_same : (number nodes : ℕ) (a b : Case) → IsCase number nodes a → IsCase number nodes b → a ≡ b
+cases_same number nodes a b p q = λ k. record {
+  grid = (p.grid ∙ sym q.grid) k;
+  crac = (p.crac ∙ sym q.crac) k;
+  settings = (p.settings ∙ sym q.settings) k;
+  glsk = (p.glsk ∙ sym q.glsk) k;
+}
+
+making_once : (number nodes : ℕ) → Agrees Same (step (IsCase number nodes) (λ fault. ⊥)) (step (IsCase number nodes) (λ fault. ⊥))
+making_once number nodes = step_agrees Same _ _ _ _ (cases_same number nodes) (λ a f s t. absurd t) (λ f b s t. absurd s) (λ f g s t. absurd s)
+
+crac_said_once : (text : List ℕ) (grid : Grid) → Agrees Same (crac_said text grid) (crac_said text grid)
+crac_said_once text grid = after_agrees Same Same (reads_tree document.Crac text) (reads_tree document.Crac text) (reads_crac grid) (reads_crac grid)
+    (reads_tree_once document.Crac text) (from_same Same (reads_crac grid) (reads_crac_once grid))
+
+settings_said_once : (text : List ℕ) (grid : Grid) → Agrees Same (settings_said text grid) (settings_said text grid)
+settings_said_once text grid = after_agrees Same Same (reads_tree document.Settings text) (reads_tree document.Settings text) (reads_settings grid) (reads_settings grid)
+    (reads_tree_once document.Settings text) (from_same Same (reads_settings grid) (reads_settings_once grid))
+
+keys_said_once : (text : List ℕ) (grid : Grid) (settings : Settings) → Agrees Same (keys_said text grid settings) (keys_said text grid settings)
+keys_said_once text grid settings = after_agrees Same Same (reads_tree document.Glsk text) (reads_tree document.Glsk text) (reads_keys grid settings) (reads_keys grid settings)
+    (reads_tree_once document.Glsk text) (from_same Same (reads_keys grid settings) (reads_keys_once grid settings))
+
+module _ (case : Case) where
+  past_settings_said_once : (grid : Grid) (crac : Crac) (settings : Settings) → Agrees Same (past_settings_said case grid crac settings) (past_settings_said case grid crac settings)
+  past_settings_said_once grid crac settings = after_agrees Same Same (keys_said case.glsk grid settings) (keys_said case.glsk grid settings) (past_keys_said case grid crac settings) (past_keys_said case grid crac settings)
+      (keys_said_once case.glsk grid settings) (from_same Same (past_keys_said case grid crac settings) (λ keys. gives_once _))
+
+  past_crac_said_once : (grid : Grid) (crac : Crac) → Agrees Same (past_crac_said case grid crac) (past_crac_said case grid crac)
+  past_crac_said_once grid crac = after_agrees Same Same (settings_said case.settings grid) (settings_said case.settings grid) (past_settings_said case grid crac) (past_settings_said case grid crac)
+      (settings_said_once case.settings grid) (from_same Same (past_settings_said case grid crac) (past_settings_said_once grid crac))
+
+  past_grid_said_once : (grid : Grid) → Agrees Same (past_grid_said case grid) (past_grid_said case grid)
+  past_grid_said_once grid = after_agrees Same Same (crac_said case.crac grid) (crac_said case.crac grid) (past_crac_said case grid) (past_crac_said case grid)
+      (crac_said_once case.crac grid) (from_same Same (past_crac_said case grid) (past_crac_said_once grid))
+
+  case_documents_once : Agrees Same (case_documents case) (case_documents case)
+  case_documents_once = after_agrees Same Same (reads_grid case.grid) (reads_grid case.grid) (past_grid_said case) (past_grid_said case)
+      (reads_grid_once case.grid) (from_same Same (past_grid_said case) past_grid_said_once)
+
+module _ (number nodes : ℕ) where
+  past_case_once : (case : Case) → Agrees Same (past_case number nodes case) (past_case number nodes case)
+  past_case_once case = after_agrees Same Same (case_documents case) (case_documents case) puts_together puts_together (case_documents_once case) (from_same Same puts_together puts_once)
+
+  case_inputs_once : Agrees Same (case_inputs number nodes) (case_inputs number nodes)
+  case_inputs_once = after_agrees Same Same (step (IsCase number nodes) (λ fault. ⊥)) (step (IsCase number nodes) (λ fault. ⊥)) (past_case number nodes) (past_case number nodes)
+      (making_once number nodes) (from_same Same (past_case number nodes) past_case_once)
+
+  tests_once : (inputs : Inputs) → Agrees JudgeSame (tests number nodes inputs) (tests number nodes inputs)
+  tests_once inputs = step_agrees JudgeSame _ _ _ _ (λ v w s t. s.verdict ∙ sym t.verdict) (λ a f s t. absurd t) (λ f b s t. absurd s) (λ f g s t. absurd s)
+
+  selftest_once : Agrees JudgeSame (selftest_work number nodes) (selftest_work number nodes)
+  selftest_once = after_agrees Same JudgeSame (case_inputs number nodes) (case_inputs number nodes) (tests number nodes) (tests number nodes)
+      case_inputs_once (from_same JudgeSame (tests number nodes) tests_once)
 
 -- ---- Whole commands
 
@@ -247,17 +326,17 @@ module _ (names : Names) (shelf : ShelfSeen) (told : IsTrue shelf.tells) (fine :
   crac_once grid = after_agrees Same Same (tree_read names shelf document.Crac) (tree_read names shelf document.Crac) (reads_crac grid) (reads_crac grid)
       (tree_once document.Crac) (from_same Same (reads_crac grid) (reads_crac_once grid))
 
-  settings_once : (grid : Grid) → Agrees SaySame (settings_read names shelf grid) (settings_read names shelf grid)
-  settings_once grid = after_agrees Same SaySame (tree_read names shelf document.Settings) (tree_read names shelf document.Settings) (reads_settings grid) (reads_settings grid)
-      (tree_once document.Settings) (from_same SaySame (reads_settings grid) (reads_settings_once grid))
+  settings_once : (grid : Grid) → Agrees Same (settings_read names shelf grid) (settings_read names shelf grid)
+  settings_once grid = after_agrees Same Same (tree_read names shelf document.Settings) (tree_read names shelf document.Settings) (reads_settings grid) (reads_settings grid)
+      (tree_once document.Settings) (from_same Same (reads_settings grid) (reads_settings_once grid))
 
-  keys_once : (grid : Grid) (s t : Settings) → SaySame s t → Agrees Same (keys_read names shelf grid s) (keys_read names shelf grid t)
-  keys_once grid s t e = after_agrees Same Same (tree_read names shelf document.Glsk) (tree_read names shelf document.Glsk) (reads_keys grid s) (reads_keys grid t)
-      (tree_once document.Glsk) (λ a b same. subst (λ (x : Data). Agrees Same (reads_keys grid s a) (reads_keys grid t x)) same (reads_keys_once grid s t e a))
+  keys_once : (grid : Grid) (settings : Settings) → Agrees Same (keys_read names shelf grid settings) (keys_read names shelf grid settings)
+  keys_once grid settings = after_agrees Same Same (tree_read names shelf document.Glsk) (tree_read names shelf document.Glsk) (reads_keys grid settings) (reads_keys grid settings)
+      (tree_once document.Glsk) (from_same Same (reads_keys grid settings) (reads_keys_once grid settings))
 
-  fetched_reductions_once : (crac : Crac) → Agrees Any (after (fetched names shelf document.Reductions) (reads_reductions crac)) (after (fetched names shelf document.Reductions) (reads_reductions crac))
-  fetched_reductions_once crac = after_agrees Same Any (fetched names shelf document.Reductions) (fetched names shelf document.Reductions) (reads_reductions crac) (reads_reductions crac)
-      (fetched_once names shelf told fine document.Reductions) (from_same Any (reads_reductions crac) (reads_reductions_once crac))
+  fetched_reductions_once : (crac : Crac) → Agrees Same (after (fetched names shelf document.Reductions) (reads_reductions crac)) (after (fetched names shelf document.Reductions) (reads_reductions crac))
+  fetched_reductions_once crac = after_agrees Same Same (fetched names shelf document.Reductions) (fetched names shelf document.Reductions) (reads_reductions crac) (reads_reductions crac)
+      (fetched_once names shelf told fine document.Reductions) (from_same Same (reads_reductions crac) (reads_reductions_once crac))
 
   no_name : (name : List ℕ) → names document.Reductions ≡ None → names document.Reductions ≡ Some name → ⊥
   no_name name none some = cc
@@ -279,36 +358,62 @@ module _ (names : Names) (shelf : ShelfSeen) (told : IsTrue shelf.tells) (fine :
   reductions_refused crac f g (inr s) (inl t) = absurd (no_both (Err g) _ g t.1 refl)
   reductions_refused crac f g (inr s) (inr t) = (fetched_reductions_once crac).neither f g s t
 
-  reductions_once : (crac : Crac) → Agrees Any (reductions_read names shelf crac) (reductions_read names shelf crac)
+  -- no name given twice over, or the same reductions
+  given_once : (crac : Crac) (a b : List Reduction) → reductions_read names shelf crac (Ok a) → reductions_read names shelf crac (Ok b) → a ≡ b
+  given_once crac a b (inl s) (inl t) = ok_same (Ok a) a b refl (s.1 ∙ sym t.1)
+  given_once crac a b (inl s) (inr t) = absurd (no_name t.1.name s.0 t.1.named)
+  given_once crac a b (inr s) (inl t) = absurd (no_name s.1.name t.0 s.1.named)
+  given_once crac a b (inr s) (inr t) = (fetched_reductions_once crac).both a b s t
+
+  reductions_once : (crac : Crac) → Agrees Same (reductions_read names shelf crac) (reductions_read names shelf crac)
   reductions_once crac = record {
-    both = λ a b s t. tt;
+    both = given_once crac;
     given = given_or_memory crac;
     refused = λ f b s t. given_or_memory crac b f t s;
     neither = reductions_refused crac;
   }
 
-  past_keys_once : (grid : Grid) (crac : Crac) (s t : Settings) → SaySame s t → (keys : Keys) → Agrees Any (past_keys names shelf grid crac s keys) (past_keys names shelf grid crac t keys)
-  past_keys_once grid crac s t e keys = after_agrees Any Any (reductions_read names shelf crac) (reductions_read names shelf crac) (puts_together grid crac s keys) (puts_together grid crac t keys)
-      (reductions_once crac) (λ q r _. puts_once grid crac s t e keys q r)
+  past_keys_once : (grid : Grid) (crac : Crac) (settings : Settings) (keys : Keys) → Agrees Same (past_keys names shelf grid crac settings keys) (past_keys names shelf grid crac settings keys)
+  past_keys_once grid crac settings keys = after_agrees Same Same (reductions_read names shelf crac) (reductions_read names shelf crac) (past_reductions names shelf grid crac settings keys) (past_reductions names shelf grid crac settings keys)
+      (reductions_once crac) (from_same Same (past_reductions names shelf grid crac settings keys) (λ reductions. gives_once _))
 
-  past_settings_once : (grid : Grid) (crac : Crac) (s t : Settings) → SaySame s t → Agrees Any (past_settings names shelf grid crac s) (past_settings names shelf grid crac t)
-  past_settings_once grid crac s t e = after_agrees Same Any (keys_read names shelf grid s) (keys_read names shelf grid t) (past_keys names shelf grid crac s) (past_keys names shelf grid crac t)
-      (keys_once grid s t e) (λ a b same. subst (λ (x : Keys). Agrees Any (past_keys names shelf grid crac s a) (past_keys names shelf grid crac t x)) same (past_keys_once grid crac s t e a))
+  past_settings_once : (grid : Grid) (crac : Crac) (settings : Settings) → Agrees Same (past_settings names shelf grid crac settings) (past_settings names shelf grid crac settings)
+  past_settings_once grid crac settings = after_agrees Same Same (keys_read names shelf grid settings) (keys_read names shelf grid settings) (past_keys names shelf grid crac settings) (past_keys names shelf grid crac settings)
+      (keys_once grid settings) (from_same Same (past_keys names shelf grid crac settings) (past_keys_once grid crac settings))
 
-  past_crac_once : (grid : Grid) (crac : Crac) → Agrees Any (past_crac names shelf grid crac) (past_crac names shelf grid crac)
-  past_crac_once grid crac = after_agrees SaySame Any (settings_read names shelf grid) (settings_read names shelf grid) (past_settings names shelf grid crac) (past_settings names shelf grid crac)
-      (settings_once grid) (past_settings_once grid crac)
+  past_crac_once : (grid : Grid) (crac : Crac) → Agrees Same (past_crac names shelf grid crac) (past_crac names shelf grid crac)
+  past_crac_once grid crac = after_agrees Same Same (settings_read names shelf grid) (settings_read names shelf grid) (past_settings names shelf grid crac) (past_settings names shelf grid crac)
+      (settings_once grid) (from_same Same (past_settings names shelf grid crac) (past_settings_once grid crac))
 
-  past_grid_once : (grid : Grid) → Agrees Any (past_grid names shelf grid) (past_grid names shelf grid)
-  past_grid_once grid = after_agrees Same Any (crac_read names shelf grid) (crac_read names shelf grid) (past_crac names shelf grid) (past_crac names shelf grid)
-      (crac_once grid) (from_same Any (past_crac names shelf grid) (past_crac_once grid))
+  past_grid_once : (grid : Grid) → Agrees Same (past_grid names shelf grid) (past_grid names shelf grid)
+  past_grid_once grid = after_agrees Same Same (crac_read names shelf grid) (crac_read names shelf grid) (past_crac names shelf grid) (past_crac names shelf grid)
+      (crac_once grid) (from_same Same (past_crac names shelf grid) (past_crac_once grid))
 
-  pub inputs_once : Agrees Any (domain_inputs names shelf) (domain_inputs names shelf)
-  inputs_once = after_agrees Same Any (grid_read names shelf) (grid_read names shelf) (past_grid names shelf) (past_grid names shelf) grid_once (from_same Any (past_grid names shelf) past_grid_once)
+  pub documents_once : Agrees Same (run_documents names shelf) (run_documents names shelf)
+  documents_once = after_agrees Same Same (grid_read names shelf) (grid_read names shelf) (past_grid names shelf) (past_grid names shelf) grid_once (from_same Same (past_grid names shelf) past_grid_once)
+
+  pub inputs_once : Agrees Same (domain_inputs names shelf) (domain_inputs names shelf)
+  inputs_once = after_agrees Same Same (run_documents names shelf) (run_documents names shelf) puts_together puts_together documents_once (from_same Same puts_together puts_once)
+
+  pub certificate_once : Agrees Same (certificate_read names shelf) (certificate_read names shelf)
+  certificate_once = after_agrees Same Same (fetched names shelf document.Certificate) (fetched names shelf document.Certificate) reads_certificate reads_certificate
+      (fetched_once names shelf told fine document.Certificate) (from_same Same reads_certificate reads_certificate_once)
 
   domain_once : (paper : Paper) → Agrees JudgeSame (domain_work paper names shelf) (domain_work paper names shelf)
   domain_once paper =
-      after_agrees Any JudgeSame (domain_inputs names shelf) (domain_inputs names shelf) (computes paper) (computes paper) inputs_once (λ i j _. computes_once paper i j)
+      after_agrees Same JudgeSame (domain_inputs names shelf) (domain_inputs names shelf) (computes paper) (computes paper) inputs_once (from_same JudgeSame (computes paper) (computes_once paper))
+
+  past_file_once : (d : RunDocuments) (file : CertificateFile) → Agrees JudgeSame (past_file names shelf d file) (past_file names shelf d file)
+  past_file_once d file = after_agrees Same JudgeSame (puts_together d) (puts_together d) (λ inputs. checks inputs file) (λ inputs. checks inputs file)
+      (puts_once d) (from_same JudgeSame (λ inputs. checks inputs file) (λ inputs. checks_once inputs file))
+
+  past_documents_once : (d : RunDocuments) → Agrees JudgeSame (past_documents names shelf d) (past_documents names shelf d)
+  past_documents_once d = after_agrees Same JudgeSame (certificate_read names shelf) (certificate_read names shelf) (past_file names shelf d) (past_file names shelf d)
+      certificate_once (from_same JudgeSame (past_file names shelf d) (past_file_once d))
+
+  check_once : Agrees JudgeSame (check_work names shelf) (check_work names shelf)
+  check_once = after_agrees Same JudgeSame (run_documents names shelf) (run_documents names shelf) (past_documents names shelf) (past_documents names shelf)
+      documents_once (from_same JudgeSame (past_documents names shelf) past_documents_once)
 
   net_once : Agrees JudgeSame (net_work names shelf) (net_work names shelf)
   net_once = after_agrees Same JudgeSame (grid_read names shelf) (grid_read names shelf) nets nets grid_once (from_same JudgeSame nets nets_once)
@@ -322,4 +427,6 @@ module _ (names : Names) (shelf : ShelfSeen) (told : IsTrue shelf.tells) (fine :
   work_once command.Net = net_once
   work_once command.Domain = domain_once Table
   work_once command.Certify = domain_once Evidence
+  work_once command.Check = check_once
   work_once command.Report = domain_once Report
+  work_once (command.Selftest case nodes) = selftest_once case nodes

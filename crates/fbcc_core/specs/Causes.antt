@@ -2,15 +2,21 @@
 use Rattle.std.specs.Prelude.{◌≡◌, ◌⊎◌, ℕ, List, ◌++◌, Option, Some, None, Result, Ok, Err, IsTrue}
 use Rattle.fb_base.specs.Pieces.{AppendsPrefix}
 use Rattle.fb_certificate.specs.declared.types.Inputs.{Inputs}
+use Rattle.certificate_check.specs.declared.verdict.Verdict.{Verdict}
+use Rattle.certificate_check.specs.declared.verdict.Verdict.TheVariants as verdict
+use Rattle.certificate_files.specs.Files.{IsFileVerdict}
 use Rattle.fbcc_core.specs.Commands.{work_of, domain_inputs}
 use Rattle.fbcc_core.specs.Papers.{command_of}
+use Rattle.fbcc_core.specs.Reading.{certificate_read}
 use Rattle.fbcc_core.specs.Seen.{ShelfSeen, SinkSeen, ShelfFailed, SinkFailed}
 use Rattle.fbcc_core.specs.Steps.{IsMemory}
 use Rattle.fbcc_core.specs.Texts.{fault_line}
 use Rattle.fbcc_core.specs.Words.{Asks, Accepts, name_given}
 use Rattle.fbcc_core.specs.declared.answer.Fault.{Fault}
 use Rattle.fbcc_core.specs.declared.answer.Fault.TheVariants.{No, Usage, ReadFault, TooLong, GridFault, JsonFault, CracFault, KeyFault, SettingsFault, ReductionFault, NoSlack, SplitGrid, RangeExceeded, CertificateFault, WriteFault, Memory}
+use Rattle.fbcc_core.specs.declared.documents.CertificateFile.{CertificateFile}
 use Rattle.fbcc_core.specs.declared.request.Command.{Command}
+use Rattle.fbcc_core.specs.declared.request.Command.TheVariants as command
 use Rattle.fbcc_core.specs.declared.paper.Paper.{Paper}
 use Rattle.fbcc_core.specs.declared.work.Work.{Work}
 
@@ -102,6 +108,23 @@ abbrev pub Completes : List (List ℕ) → ShelfSeen → SinkSeen → Option Fau
 Completes words shelf out answer =
     (paper : Paper) → (inputs : Inputs) → Asks words (command_of paper) → domain_inputs (name_given words) shelf (Ok inputs) → IsTrue shelf.tells → ¬ ShelfFailed shelf → ¬ SinkFailed out
     → (answer ≡ None) ⊎ IsOutOfMemory answer
+
+-- the answer for a verdict on a certificate
+abbrev pub answer_for : Verdict → Option Fault
+answer_for verdict.Yes = None
+answer_for (verdict.No row reason) = Some (No row reason)
+
+-- the answer is the verdict on the certificate; there is at most one
+pub record IsVerdictTold (inputs : Inputs) (file : CertificateFile) (answer : Option Fault) : Type 0 where
+  pub verdict : Verdict
+  pub is : IsFileVerdict inputs file.bytes file.certificate verdict
+  pub told : answer ≡ answer_for verdict
+
+-- A certificate is judged wherever it and the documents can be read and their states are in order.
+abbrev pub Verifies : List (List ℕ) → ShelfSeen → SinkSeen → Option Fault → Type 0
+Verifies words shelf out answer =
+    (inputs : Inputs) (file : CertificateFile) → Asks words command.Check → domain_inputs (name_given words) shelf (Ok inputs) → certificate_read (name_given words) shelf (Ok file)
+    → IsTrue shelf.tells → ¬ ShelfFailed shelf → ¬ SinkFailed out → IsVerdictTold inputs file answer ⊎ IsOutOfMemory answer
 
 -- ---- What is told
 

@@ -1,11 +1,7 @@
 -- What each command does, step by step.
 use Rattle.std.specs.Prelude.{◌≡◌, ◌⊎◌, ℕ, ◌+◌, ℤ, List, [], length, Some, None}
 use Rattle.fb_types.specs.Domain.{Follows as FollowsBy, IsPoint, Meets, MeetsCited}
-use Rattle.fb_types.specs.declared.crac.Crac.{Crac}
 use Rattle.fb_types.specs.declared.grid.Grid.{Grid}
-use Rattle.run_settings.specs.declared.model.Settings.{Settings}
-use Rattle.run_settings.specs.declared.reduction.Reduction.{Reduction}
-use Rattle.glsk_keys.specs.declared.model.Keys.{Keys}
 use Rattle.rows_document.specs.declared.reader.RowsDocument.{RowsDocument}
 use Rattle.net_table.specs.NetTexts.{net_text}
 use Rattle.fb_certificate.specs.Thin.{IsThinDomain}
@@ -13,10 +9,16 @@ use Rattle.valid_domains.specs.Sound.{IsSoundDomain}
 use Rattle.fb_certificate.specs.Whole.{IsWhole}
 use Rattle.fb_certificate.specs.declared.types.Inputs.{Inputs}
 use Rattle.fb_certificate.specs.declared.types.Certificate.{Certificate}
+use Rattle.certificate_check.specs.declared.verdict.Reason.{Reason}
+use Rattle.certificate_check.specs.declared.verdict.Reason.TheVariants.{Follows}
+use Rattle.certificate_check.specs.declared.verdict.Verdict.TheVariants as verdict
+use Rattle.case_maker.specs.CaseTexts.{IsCase}
+use Rattle.certificate_files.specs.Files.{IsFileVerdict}
+use Rattle.run_report.specs.SummaryTexts.{summary_text}
 use Rattle.run_inputs.specs.Refusals.{IsRefused}
 use Rattle.run_inputs.specs.declared.InputsError.{InputsError}
 use Rattle.run_inputs.specs.declared.InputsError.TheVariants as refusal
-use Rattle.fbcc_core.specs.Reading.{fetched, reads_rows, grid_read, crac_read, settings_read, keys_read, reductions_read}
+use Rattle.fbcc_core.specs.Reading.{fetched, reads_rows, grid_read, case_documents, run_documents, certificate_read}
 use Rattle.fbcc_core.specs.Seen.{ShelfSeen}
 use Rattle.fbcc_core.specs.Words.{Names}
 use Rattle.fbcc_core.specs.Steps.{Step, step, after}
@@ -24,7 +26,8 @@ use Rattle.fbcc_core.specs.Texts.{yes_text, no_text}
 use Rattle.fbcc_core.specs.declared.answer.Document.TheVariants as document
 use Rattle.fbcc_core.specs.declared.answer.Fault.{Fault}
 use Rattle.fbcc_core.specs.declared.answer.Fault.TheVariants.{No, NoSlack, SplitGrid, RangeExceeded, Memory}
-use Rattle.fbcc_core.specs.declared.answer.Reason.TheVariants.{Follows}
+use Rattle.fbcc_core.specs.declared.documents.CertificateFile.{CertificateFile}
+use Rattle.fbcc_core.specs.declared.documents.RunDocuments.{RunDocuments}
 use Rattle.fbcc_core.specs.declared.request.Command.{Command}
 use Rattle.fbcc_core.specs.declared.request.Command.TheVariants as command
 use Rattle.fbcc_core.specs.Papers.{IsPaper}
@@ -80,14 +83,14 @@ net_work names shelf = after (grid_read names shelf) nets
 
 -- ---- domain, certify, report
 
--- whole inputs of these parts
-pub record AreInputs (grid : Grid) (crac : Crac) (settings : Settings) (keys : Keys) (reductions : List Reduction) (inputs : Inputs) : Type 0 where
+-- whole inputs of these documents
+pub record AreInputs (documents : RunDocuments) (inputs : Inputs) : Type 0 where
   pub whole : IsWhole inputs
-  pub grid_is : inputs.grid ≡ grid
-  pub crac_is : inputs.crac ≡ crac
-  pub settings_are : inputs.settings ≡ settings
-  pub keys_are : inputs.keys ≡ keys
-  pub reductions_are : inputs.reductions ≡ reductions
+  pub grid_is : inputs.grid ≡ documents.grid
+  pub crac_is : inputs.crac ≡ documents.crac
+  pub settings_are : inputs.settings ≡ documents.settings
+  pub keys_are : inputs.keys ≡ documents.keys
+  pub reductions_are : inputs.reductions ≡ documents.reductions
 
 -- the fault that tells why there are no inputs
 abbrev pub fault_of : InputsError → Fault
@@ -97,20 +100,14 @@ fault_of (refusal.RangeExceeded state) = RangeExceeded state
 fault_of (refusal.Memory e) = Memory e
 
 -- the grid states of the documents, or why there are none: slack, then split over all states, then range over all states
-abbrev pub puts_together : Grid → Crac → Settings → Keys → List Reduction → Step Inputs
-puts_together grid crac settings keys reductions =
-    step (AreInputs grid crac settings keys reductions)
-    (λ fault. (e : InputsError) × IsRefused grid crac settings.slack keys.columns e × (fault ≡ fault_of e))
+abbrev pub puts_together : RunDocuments → Step Inputs
+puts_together d =
+    step (AreInputs d)
+    (λ fault. (e : InputsError) × IsRefused d.grid d.crac d.settings.slack d.keys.columns e × (fault ≡ fault_of e))
 
 -- the documents, one after another, and the states
 abbrev pub domain_inputs : Names → ShelfSeen → Step Inputs
-domain_inputs names shelf =
-    after (grid_read names shelf) (λ grid.
-    after (crac_read names shelf grid) (λ crac.
-    after (settings_read names shelf grid) (λ settings.
-    after (keys_read names shelf grid settings) (λ keys.
-    after (reductions_read names shelf crac) (λ reductions.
-    puts_together grid crac settings keys reductions)))))
+domain_inputs names shelf = after (run_documents names shelf) puts_together
 
 -- the text is that of a sound certificate, which keeps no row that follows from the box or from one other
 pub record IsDomain (paper : Paper) (inputs : Inputs) (work : Work) : Type 0 where
@@ -126,6 +123,56 @@ computes paper inputs = step (IsDomain paper inputs) (λ fault. ⊥)
 abbrev pub domain_work : Paper → Names → ShelfSeen → Step Work
 domain_work paper names shelf = after (domain_inputs names shelf) (computes paper)
 
+-- ---- check
+
+-- the certificate is that of a sound domain, its labels are due, and the answer is yes
+pub record IsAccepted (inputs : Inputs) (file : CertificateFile) (work : Work) : Type 0 where
+  pub accepted : IsFileVerdict inputs file.bytes file.certificate verdict.Yes
+  pub sound : IsSoundDomain inputs file.certificate
+  pub text : work.text ≡ yes_text
+  pub verdict : work.verdict ≡ None
+
+-- a record fails, and the answer is no, at the first one and with the first reason there
+pub record IsRejected (inputs : Inputs) (file : CertificateFile) (work : Work) : Type 0 where
+  pub row : ℕ
+  pub reason : Reason
+  pub rejected : IsFileVerdict inputs file.bytes file.certificate (verdict.No row reason)
+  pub text : work.text ≡ no_text row reason
+  pub verdict : work.verdict ≡ Some (No row reason)
+
+abbrev pub checks : Inputs → CertificateFile → Step Work
+checks inputs file = step (λ work. IsAccepted inputs file work ⊎ IsRejected inputs file work) (λ fault. ⊥)
+
+-- the certificate is read before the states are judged
+abbrev pub check_work : Names → ShelfSeen → Step Work
+check_work names shelf =
+    after (run_documents names shelf) (λ documents.
+    after (certificate_read names shelf) (λ file.
+    after (puts_together documents) (λ inputs.
+    checks inputs file)))
+
+-- ---- selftest
+
+-- the inputs of the generated case with this number and so many nodes
+abbrev pub case_inputs : ℕ → ℕ → Step Inputs
+case_inputs number nodes =
+    after (step (IsCase number nodes) (λ fault. ⊥)) (λ case.
+    after (case_documents case) puts_together)
+
+-- the text is the summary of a sound certificate, which the check accepts and which keeps no row that follows
+pub record IsTested (number nodes : ℕ) (inputs : Inputs) (work : Work) : Type 0 where
+  pub certificate : Certificate
+  pub sound : IsSoundDomain inputs certificate
+  pub thin : IsThinDomain inputs certificate
+  pub text : work.text ≡ summary_text number nodes certificate
+  pub verdict : work.verdict ≡ None
+
+abbrev pub tests : ℕ → ℕ → Inputs → Step Work
+tests number nodes inputs = step (IsTested number nodes inputs) (λ fault. ⊥)
+
+abbrev pub selftest_work : ℕ → ℕ → Step Work
+selftest_work number nodes = after (case_inputs number nodes) (tests number nodes)
+
 -- ---- All commands
 
 abbrev pub work_of : Names → ShelfSeen → Command → Step Work
@@ -133,4 +180,6 @@ work_of names shelf command.Rows = rows_work names shelf
 work_of names shelf command.Net = net_work names shelf
 work_of names shelf command.Domain = domain_work Table names shelf
 work_of names shelf command.Certify = domain_work Evidence names shelf
+work_of names shelf command.Check = check_work names shelf
 work_of names shelf command.Report = domain_work Report names shelf
+work_of names shelf (command.Selftest case nodes) = selftest_work case nodes

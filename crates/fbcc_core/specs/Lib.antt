@@ -10,4 +10,5 @@ pub mod Statuses
 pub mod Steps
 pub mod Telling
 pub mod Texts
+pub mod Understood
 pub mod Words

@@ -19,13 +19,18 @@ use Rattle.run_settings.specs.declared.reduction.ReductionKind.{ReductionKind}
 use Rattle.glsk_keys.specs.Columns.{keys_of}
 use Rattle.glsk_keys.specs.declared.model.Keys.{Keys}
 use Rattle.glsk_keys.specs.declared.model.KeyKind.{KeyKind}
+use Rattle.certificate_reader.specs.Reading.{IsReading as IsCertificate, IsFirstBadRow}
+use Rattle.case_maker.specs.declared.Case.{Case}
+use Rattle.csv_rows.specs.Rows.{records_in}
 use Rattle.rows_document.specs.Table.{lines_of}
 use Rattle.rows_document.specs.Reading.{IsReading, IsFirstBadLine}
 use Rattle.rows_document.specs.declared.reader.RowsDocument.{RowsDocument}
 use Rattle.fbcc_core.specs.Seen.{ShelfSeen, ShelfFailed}
-use Rattle.fbcc_core.specs.Statuses.{limit}
-use Rattle.fbcc_core.specs.Steps.{Step, step, after}
+use Rattle.fbcc_core.specs.Statuses.{limit_of}
+use Rattle.fbcc_core.specs.Steps.{Step, step, after, gives}
 use Rattle.fbcc_core.specs.Words.{Names}
+use Rattle.fbcc_core.specs.declared.documents.CertificateFile.{CertificateFile}
+use Rattle.fbcc_core.specs.declared.documents.RunDocuments.{RunDocuments}
 use Rattle.fbcc_core.specs.declared.answer.Document.{Document}
 use Rattle.fbcc_core.specs.declared.answer.Document.TheVariants as document
 use Rattle.fbcc_core.specs.declared.answer.Fault.{Fault}
@@ -39,7 +44,7 @@ pub record IsGiven (names : Names) (shelf : ShelfSeen) (document : Document) (by
   pub name : List ℕ
   pub named : names document ≡ Some name
   pub told : IsTrue shelf.tells → Holds shelf.documents name bytes
-  pub within : length bytes ≤ limit
+  pub within : length bytes ≤ limit_of document
 
 -- the shelf failed at the document
 pub record IsUnread (names : Names) (shelf : ShelfSeen) (document : Document) (fault : Fault) : Type 0 where
@@ -51,10 +56,10 @@ pub record IsUnread (names : Names) (shelf : ShelfSeen) (document : Document) (f
 
 -- the document has more bytes than its limit
 pub record IsLonger (names : Names) (shelf : ShelfSeen) (document : Document) (fault : Fault) : Type 0 where
-  pub is : fault ≡ TooLong document limit
+  pub is : fault ≡ TooLong document (limit_of document)
   pub name : List ℕ
   pub named : names document ≡ Some name
-  pub told : IsTrue shelf.tells → HasMoreThan shelf.documents name limit
+  pub told : IsTrue shelf.tells → HasMoreThan shelf.documents name (limit_of document)
 
 abbrev pub fetched : Names → ShelfSeen → Document → Step (List ℕ)
 fetched names shelf document = step (IsGiven names shelf document) (λ fault. IsUnread names shelf document fault ⊎ IsLonger names shelf document fault)
@@ -98,6 +103,12 @@ reads_reductions crac bytes =
 abbrev pub reads_rows : List ℕ → Step RowsDocument
 reads_rows bytes = step (IsReading bytes) (λ fault. (row : ℕ) × (fault ≡ CertificateFault row) × IsFirstBadLine (lines_of bytes) row)
 
+-- the certificate that the bytes are, or their first record that is none
+abbrev pub reads_certificate : List ℕ → Step CertificateFile
+reads_certificate bytes =
+    step (λ file. (file.bytes ≡ bytes) × IsCertificate bytes file.certificate)
+    (λ fault. (row : ℕ) × (fault ≡ CertificateFault row) × IsFirstBadRow (records_in bytes) row)
+
 -- ---- Each document of a domain, fetched and then understood
 
 abbrev pub grid_read : Names → ShelfSeen → Step Grid
@@ -120,3 +131,34 @@ abbrev pub reductions_read : Names → ShelfSeen → Crac → Step (List Reducti
 reductions_read names shelf crac result =
     ((names document.Reductions ≡ None) × (result ≡ Ok []))
     ⊎ after (fetched names shelf document.Reductions) (reads_reductions crac) result
+
+abbrev pub certificate_read : Names → ShelfSeen → Step CertificateFile
+certificate_read names shelf = after (fetched names shelf document.Certificate) reads_certificate
+
+-- a generated case: what its texts say, without reductions
+abbrev pub crac_said : List ℕ → Grid → Step Crac
+crac_said text grid = after (reads_tree document.Crac text) (reads_crac grid)
+
+abbrev pub settings_said : List ℕ → Grid → Step Settings
+settings_said text grid = after (reads_tree document.Settings text) (reads_settings grid)
+
+abbrev pub keys_said : List ℕ → Grid → Settings → Step Keys
+keys_said text grid settings = after (reads_tree document.Glsk text) (reads_keys grid settings)
+
+abbrev pub case_documents : Case → Step RunDocuments
+case_documents case =
+    after (reads_grid case.grid) (λ grid.
+    after (crac_said case.crac grid) (λ crac.
+    after (settings_said case.settings grid) (λ settings.
+    after (keys_said case.glsk grid settings) (λ keys.
+    gives (record { grid = grid; crac = crac; settings = settings; keys = keys; reductions = [] })))))
+
+-- the documents of a run, one after another
+abbrev pub run_documents : Names → ShelfSeen → Step RunDocuments
+run_documents names shelf =
+    after (grid_read names shelf) (λ grid.
+    after (crac_read names shelf grid) (λ crac.
+    after (settings_read names shelf grid) (λ settings.
+    after (keys_read names shelf grid settings) (λ keys.
+    after (reductions_read names shelf crac) (λ reductions.
+    gives (record { grid = grid; crac = crac; settings = settings; keys = keys; reductions = reductions }))))))

@@ -31,8 +31,15 @@ name_of document.Crac = codes "crac"
 name_of document.Settings = codes "settings"
 name_of document.Glsk = codes "glsk"
 name_of document.Reductions = codes "reductions"
+name_of document.Certificate = codes "certificate"
 name_of document.Rows = codes "rows"
 
--- in bytes, for each document
-abbrev pub limit : ℕ
-limit = 67108864
+-- in bytes
+abbrev pub limit_of : Document → ℕ
+limit_of document.Grid = 67108864
+limit_of document.Crac = 67108864
+limit_of document.Settings = 67108864
+limit_of document.Glsk = 67108864
+limit_of document.Reductions = 67108864
+limit_of document.Certificate = 536870912
+limit_of document.Rows = 67108864

@@ -14,8 +14,12 @@ IsMemory fault = (e : AllocError) × (fault ≡ Memory e)
 
 -- a step that gives what the one says, and refuses as the other says, or finds no memory
 abbrev pub step : {A : Type 0} → (A → Type 0) → (Fault → Type 0) → Step A
-step gives refuses (Ok a) = gives a
-step gives refuses (Err fault) = refuses fault ⊎ IsMemory fault
+step takes refuses (Ok a) = takes a
+step takes refuses (Err fault) = refuses fault ⊎ IsMemory fault
+
+-- a step that gives this
+abbrev pub gives : {A : Type 0} → A → Step A
+gives a = step (λ given. given ≡ a) (λ fault. ⊥)
 
 -- one step, and then another with what the first one gave; where the first one refuses, so do both
 abbrev pub after : {A B : Type 0} → Step A → (A → Step B) → Step B

@@ -3,8 +3,8 @@ use Rattle.std.specs.Prelude.{ℕ, List, [], ◌∷◌, ◌++◌, codes}
 use Rattle.std.specs.Fmt.{decimal}
 use Rattle.fbcc_core.specs.Kinds.{grid_kind_text, crac_kind_text, settings_kind_text, key_kind_text, reduction_kind_text}
 use Rattle.fbcc_core.specs.Statuses.{name_of}
-use Rattle.fbcc_core.specs.declared.answer.Reason.{Reason}
-use Rattle.fbcc_core.specs.declared.answer.Reason.TheVariants.{Follows}
+use Rattle.certificate_check.specs.declared.verdict.Reason.{Reason}
+use Rattle.certificate_check.specs.declared.verdict.Reason.TheVariants as why
 use Rattle.fbcc_core.specs.declared.answer.Fault.{Fault}
 use Rattle.fbcc_core.specs.declared.answer.Fault.TheVariants.{No, Usage, ReadFault, TooLong, GridFault, JsonFault, CracFault, KeyFault, SettingsFault, ReductionFault, NoSlack, SplitGrid, RangeExceeded, CertificateFault, WriteFault, Memory}
 
@@ -12,7 +12,15 @@ abbrev pub line : List ℕ → List ℕ
 line text = text ++ 10 ∷ []
 
 abbrev pub reason_text : Reason → List ℕ
-reason_text Follows = codes "Follows"
+reason_text why.Order = codes "Order"
+reason_text why.Barrier = codes "Barrier"
+reason_text why.Angle = codes "Angle"
+reason_text why.Kappa = codes "Kappa"
+reason_text why.Class = codes "Class"
+reason_text why.Coefficient = codes "Coefficient"
+reason_text why.RightSide = codes "RightSide"
+reason_text why.Cited = codes "Cited"
+reason_text why.Follows = codes "Follows"
 
 -- the verdict yes
 abbrev pub yes_text : List ℕ

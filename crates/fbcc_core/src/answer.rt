@@ -3,6 +3,7 @@
 ghost use Rattle.std.specs.Prelude.{◌≡◌};
 ghost use Rattle.fbcc_core.specs.Statuses.{status_of, name_of};
 
+use certificate_check::Reason;
 use crac_model::CracKind;
 use fb_types::Text;
 use glsk_keys::KeyKind;
@@ -18,20 +19,15 @@ pub enum Document {
     Settings,
     Glsk,
     Reductions,
+    Certificate,
     Rows,
-}
-
-/// Why multipliers or a certificate are not valid.
-#[derive(Clone, Copy, Debug, PartialEq, Eq)]
-pub enum Reason {
-    /// The target does not follow by the multipliers.
-    Follows,
 }
 
 /// Why the call did not do its work, or that its answer is no.
 #[derive(Debug, Drop)]
 pub enum Fault {
-    /// The answer is no, at this line of the document.
+    /// The answer is no: at this record of the certificate, counted from 1, or at this line of the rows document, and for
+    /// this reason.
     No { row: u64, reason: Reason },
     /// The words are no command with its options.
     Usage,
@@ -57,7 +53,7 @@ pub enum Fault {
     SplitGrid { state: u32, node: Text },
     /// This state is the first outside the range rule.
     RangeExceeded { state: u32 },
-    /// This line of the rows document is its first bad one.
+    /// This record of the certificate, or line of the rows document, is the first that is none.
     CertificateFault { row: u64 },
     /// The output failed.
     WriteFault,
@@ -108,6 +104,7 @@ impl Document {
             Document::Settings => "settings",
             Document::Glsk => "glsk",
             Document::Reductions => "reductions",
+            Document::Certificate => "certificate",
             Document::Rows => "rows",
         }
     }

@@ -1,4 +1,4 @@
-//! The documents of a domain, each fetched and then understood.
+//! The documents of a run, each fetched and then understood.
 
 ghost use Rattle.std.specs.Prelude.{◌≡◌, ◌≢◌, ◌≤◌, IfOk, IfErr, None, Ok, Err, length};
 ghost use Rattle.fb_certificate.specs.Whole.{IsCracOver};
@@ -7,21 +7,43 @@ ghost use Rattle.glsk_keys.specs.Laws.{AreKeys};
 ghost use Rattle.run_settings.specs.Laws.{AreSettings};
 ghost use Rattle.run_settings.specs.ReductionLaws.{AreReductionsOf};
 ghost use Rattle.run_settings.specs.Views.{said};
-ghost use Rattle.fbcc_core.specs.Reading.{grid_read, tree_read, crac_read, settings_read, keys_read, reductions_read};
+ghost use Rattle.fbcc_core.specs.NamedDocuments.{AreDomainNames};
+ghost use Rattle.fbcc_core.specs.Reading.{grid_read, tree_read, crac_read, settings_read, keys_read, reductions_read, certificate_read, run_documents};
 ghost use Rattle.fbcc_core.specs.Seen.{shelf_seen};
+ghost use Rattle.fbcc_core.specs.Understood.{AreInOrder};
 ghost use Rattle.fbcc_core.specs.Words.{names_of};
 
 use crate::answer::{Document, Fault};
 use crate::fetching::fetch_document;
 use crate::request::name_for;
-use crate::understanding::{crac_in, grid_in, keys_in, reductions_in, settings_in, tree_in};
+use crate::understanding::{
+    certificate_in, crac_in, grid_in, keys_in, reductions_in, settings_in, tree_in,
+};
 use command_words::Request;
 use fb_base::Shelf;
+use fb_certificate::Certificate;
 use fb_json::Doc;
 use fb_types::{Crac, Grid, Items};
 use glsk_keys::Keys;
 use run_settings::{Reduction, Settings};
 use std::alloc::Global;
+
+/// The documents of a run.
+#[derive(Debug, Drop)]
+pub struct RunDocuments {
+    pub grid: Grid,
+    pub crac: Crac,
+    pub settings: Settings,
+    pub keys: Keys,
+    pub reductions: Items<Reduction>,
+}
+
+/// A certificate: the bytes of its document, and what they say.
+#[derive(Debug, Drop)]
+pub struct CertificateFile {
+    pub bytes: Items<u8>,
+    pub certificate: Certificate,
+}
 
 /// The grid.
 pub fn read_grid_document<H: Shelf>(
@@ -130,4 +152,47 @@ pub fn read_reductions_document<H: Shelf>(
     }
     let bytes = fetch_document(alloc, request, Document::Reductions, shelf)?;
     reductions_in(alloc, bytes.as_slice(), crac)
+}
+
+/// The documents of a run, one after another.
+pub fn read_run_documents<H: Shelf>(
+    alloc: Global,
+    request: &Request<'_>,
+    shelf: &mut H,
+) -> Result<RunDocuments, Fault>
+    requires { AreDomainNames (names_of request.now) }
+    ensures still_tells { H.tells shelf.new ≡ H.tells shelf.old }
+    ensures still_held { H.held shelf.new ≡ H.held shelf.old }
+    ensures never_falls { H.faults shelf.old ≤ H.faults shelf.new }
+    ensures steps { run_documents (names_of request.now) (shelf_seen H.tells H.held H.faults H.last_failed shelf.old shelf.new) result }
+    ensures laws { IfOk result AreInOrder }
+{
+    let grid = read_grid_document(alloc, request, shelf)?;
+    let crac = read_crac_document(alloc, request, &grid, shelf)?;
+    let settings = read_settings_document(alloc, request, &grid, shelf)?;
+    let keys = read_keys_document(alloc, request, &grid, &settings, shelf)?;
+    let reductions = read_reductions_document(alloc, request, &crac, shelf)?;
+    Ok(RunDocuments {
+        grid,
+        crac,
+        settings,
+        keys,
+        reductions,
+    })
+}
+
+/// The certificate.
+pub fn read_certificate_document<H: Shelf>(
+    alloc: Global,
+    request: &Request<'_>,
+    shelf: &mut H,
+) -> Result<CertificateFile, Fault>
+    requires { names_of request.now Document.Certificate ≢ None }
+    ensures still_tells { H.tells shelf.new ≡ H.tells shelf.old }
+    ensures still_held { H.held shelf.new ≡ H.held shelf.old }
+    ensures never_falls { H.faults shelf.old ≤ H.faults shelf.new }
+    ensures step { certificate_read (names_of request.now) (shelf_seen H.tells H.held H.faults H.last_failed shelf.old shelf.new) result }
+{
+    let bytes = fetch_document(alloc, request, Document::Certificate, shelf)?;
+    certificate_in(alloc, bytes)
 }

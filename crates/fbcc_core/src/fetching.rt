@@ -3,6 +3,7 @@
 ghost use Rattle.std.specs.Prelude.{◌≡◌, ◌≢◌, ◌≤◌, Some};
 ghost use Rattle.fbcc_core.specs.Reading.{fetched};
 ghost use Rattle.fbcc_core.specs.Seen.{shelf_seen};
+ghost use Rattle.fbcc_core.specs.Statuses.{limit_of};
 ghost use Rattle.fbcc_core.specs.Words.{names_of};
 
 use crate::answer::{Document, Fault};
@@ -13,7 +14,19 @@ use fb_types::Items;
 use std::alloc::Global;
 
 /// The greatest length of a document, in bytes.
-const LIMIT: u64 = 67_108_864;
+fn limit(document: Document) -> u64
+    ensures { result ≡ limit_of document }
+{
+    match document {
+        Document::Certificate => 536_870_912,
+        Document::Grid
+        | Document::Crac
+        | Document::Settings
+        | Document::Glsk
+        | Document::Reductions
+        | Document::Rows => 67_108_864,
+    }
+}
 
 /// The bytes of a document that the request names.
 pub fn fetch_document<H: Shelf>(
@@ -31,7 +44,7 @@ pub fn fetch_document<H: Shelf>(
     let Some(name) = name_for(request, document) else {
         unreachable!()
     };
-    match shelf.fetch(alloc, name, LIMIT) {
+    match shelf.fetch(alloc, name, limit(document)) {
         Ok(bytes) => Ok(Items::from_vec(bytes)),
         Err(Fetch::Failed) => Err(Fault::ReadFault { document }),
         Err(Fetch::TooLong { limit }) => Err(Fault::TooLong { document, limit }),

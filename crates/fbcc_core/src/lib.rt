@@ -4,18 +4,23 @@
 
 mod answer;
 mod call;
+mod check_command;
 mod documents;
 mod domain_command;
 mod fetching;
+mod inputs;
 mod kinds;
 mod net_command;
 mod output;
 mod paper;
 mod request;
 mod rows_command;
+mod selftest_command;
 mod telling;
 mod understanding;
+mod verdicts;
 mod work;
 
-pub use answer::{Document, Fault, Outcome, Reason};
+pub use answer::{Document, Fault, Outcome};
 pub use call::fbcc;
+pub use certificate_check::Reason;

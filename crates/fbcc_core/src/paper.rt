@@ -5,6 +5,7 @@ ghost use Rattle.fb_certificate.specs.Valid.{IsValid};
 ghost use Rattle.fb_certificate.specs.Whole.{IsWhole};
 ghost use Rattle.fbcc_core.specs.Papers.{IsPaper};
 
+use certificate_files::reads_back;
 use certificate_text::write_certificate;
 use domain_report::write_domain;
 use fb_certificate::{Certificate, Inputs};
@@ -36,7 +37,10 @@ impl Paper {
     {
         match self {
             Paper::Table => write_domain(alloc, inputs, certificate),
-            Paper::Evidence => write_certificate(alloc, inputs, certificate),
+            Paper::Evidence => {
+                reads_back(inputs, certificate);
+                write_certificate(alloc, inputs, certificate)
+            }
             Paper::Report => write_report(alloc, inputs, certificate),
         }
     }

@@ -2,7 +2,7 @@
 
 ghost use Rattle.std.specs.Prelude.{◌≡◌};
 ghost use Rattle.std.specs.Option.{option_copied};
-ghost use Rattle.fbcc_core.specs.Words.{built, names_of};
+ghost use Rattle.fbcc_core.specs.Words.{command_in, names_of};
 
 use crate::answer::Document;
 use command_words::Request;
@@ -14,21 +14,28 @@ pub enum Command {
     Net,
     Domain,
     Certify,
+    Check,
     Report,
+    /// The work of `domain` and of `check` on a generated case, by its number and the count of its nodes.
+    Selftest { case: u64, nodes: u64 },
 }
 
-/// The command, if the program does it yet.
-pub fn built(command: command_words::Command) -> Option<Command>
-    ensures { result ≡ built command }
+/// The command that is asked for. A request for a generated case has its number and the count of its nodes.
+pub fn command_in(request: &Request<'_>) -> Option<Command>
+    ensures { result ≡ command_in request.now }
 {
-    match command {
+    match request.command {
         command_words::Command::Rows => Some(Command::Rows),
         command_words::Command::Net => Some(Command::Net),
         command_words::Command::Domain => Some(Command::Domain),
         command_words::Command::Certify => Some(Command::Certify),
-        command_words::Command::Check => None,
+        command_words::Command::Check => Some(Command::Check),
         command_words::Command::Report => Some(Command::Report),
-        command_words::Command::Selftest => None,
+        command_words::Command::Selftest => {
+            let case = request.case?;
+            let nodes = request.nodes?;
+            Some(Command::Selftest { case, nodes })
+        }
     }
 }
 
@@ -42,6 +49,7 @@ pub fn name_for<'a>(request: &Request<'a>, document: Document) -> Option<&'a str
         Document::Settings => request.settings,
         Document::Glsk => request.glsk,
         Document::Reductions => request.reductions,
+        Document::Certificate => request.certificate,
         Document::Rows => request.rows,
     }
 }

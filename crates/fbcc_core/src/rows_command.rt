@@ -7,13 +7,14 @@ ghost use Rattle.fbcc_core.specs.Seen.{shelf_seen};
 ghost use Rattle.fbcc_core.specs.Steps.{IsMemory};
 ghost use Rattle.fbcc_core.specs.Words.{names_of};
 
-use crate::answer::{Document, Fault, Reason};
+use crate::answer::{Document, Fault};
 use crate::fetching::fetch_document;
 use crate::understanding::rows_in;
+use crate::verdicts::{no, yes};
 use crate::work::Work;
+use certificate_check::Reason;
 use command_words::Request;
 use fb_base::Shelf;
-use fb_types::Items;
 use redundancy::follows;
 use rows_document::RowsDocument;
 use std::alloc::Global;
@@ -46,45 +47,20 @@ fn judge(alloc: Global, document: &RowsDocument) -> Result<Work, Fault>
         &document.by,
         &document.bounds,
     ) {
-        yes(alloc, document)
+        yes(alloc)
     } else {
-        no(alloc, document)
+        fails(alloc, document)
     }
 }
 
-/// The verdict yes.
-fn yes(alloc: Global, document: &RowsDocument) -> Result<Work, Fault>
-    requires proves { Proves document.now }
-    requires holds { HoldsTarget document.now }
-    ensures yes { IfOk result (IsYes document.now) }
-    ensures memory { IfErr result IsMemory }
-{
-    match String::from_str(alloc, "yes\n") {
-        Ok(text) => Ok(Work {
-            text: Items::from_vec(text.into_bytes()),
-            verdict: None,
-        }),
-        Err(e) => Err(Fault::Memory(e)),
-    }
-}
-
-/// The verdict no, with the line of the target.
-fn no(alloc: Global, document: &RowsDocument) -> Result<Work, Fault>
+/// The verdict no, at the line of the target.
+fn fails(alloc: Global, document: &RowsDocument) -> Result<Work, Fault>
     requires fails { ¬ Proves document.now }
     requires few_zones { length document.now.bounds ≤ 64 }
     requires few_rows { length document.now.rows ≤ 40000 }
     ensures no { IfOk result (IsNo document.now) }
     ensures memory { IfErr result IsMemory }
 {
-    let row = document.bounds.len() + document.rows.len() + 1;
-    match format!(in alloc; "no {row} Follows\n") {
-        Ok(text) => Ok(Work {
-            text: Items::from_vec(text.into_bytes()),
-            verdict: Some(Fault::No {
-                row,
-                reason: Reason::Follows,
-            }),
-        }),
-        Err(e) => Err(Fault::Memory(e)),
-    }
+    let line = document.bounds.len() + document.rows.len() + 1;
+    no(alloc, line, Reason::Follows)
 }

@@ -8,9 +8,11 @@ ghost use Rattle.glsk_keys.specs.Laws.{AreKeys};
 ghost use Rattle.run_settings.specs.Laws.{AreSettings};
 ghost use Rattle.run_settings.specs.ReductionLaws.{AreReductionsOf};
 ghost use Rattle.run_settings.specs.Views.{said};
-ghost use Rattle.fbcc_core.specs.Reading.{reads_grid, reads_tree, reads_crac, reads_settings, reads_keys, reads_reductions, reads_rows};
+ghost use Rattle.fbcc_core.specs.Reading.{reads_grid, reads_tree, reads_crac, reads_settings, reads_keys, reads_reductions, reads_rows, reads_certificate};
 
 use crate::answer::{Document, Fault};
+use crate::documents::CertificateFile;
+use certificate_reader::{CertificateError, read_certificate};
 use crac_model::{CracError, read_crac};
 use fb_json::{Doc, JsonFault, tree};
 use fb_types::{Crac, Grid, Items};
@@ -105,5 +107,16 @@ pub fn rows_in(alloc: Global, bytes: &[u8]) -> Result<RowsDocument, Fault>
         Ok(document) => Ok(document),
         Err(RowsError::Fault { line }) => Err(Fault::CertificateFault { row: line }),
         Err(RowsError::Memory(e)) => Err(Fault::Memory(e)),
+    }
+}
+
+/// The certificate that the bytes spell.
+pub fn certificate_in(alloc: Global, bytes: Items<u8>) -> Result<CertificateFile, Fault>
+    ensures step { reads_certificate bytes result }
+{
+    match read_certificate(alloc, bytes.as_slice()) {
+        Ok(certificate) => Ok(CertificateFile { bytes, certificate }),
+        Err(CertificateError::BadRow { row }) => Err(Fault::CertificateFault { row }),
+        Err(CertificateError::Memory(e)) => Err(Fault::Memory(e)),
     }
 }

@@ -1,8 +1,10 @@
 //! Calls over a shelf and sinks in memory.
 
+use fan_out::{Gate, OpenGate};
 use fb_base::{MemShelf, MemSink};
 use fbcc_core::{Outcome, fbcc};
 use std::alloc::{AllocError, Global};
+use std::thread::Threads;
 
 /// The words of `domain`, without reductions and with them.
 pub const DOMAIN: [&str; 9] = [
@@ -42,6 +44,21 @@ pub const REPORT: [&str; 9] = [
     "settings.json",
 ];
 
+/// The words of `check`.
+pub const CHECK: [&str; 11] = [
+    "check",
+    "--grid",
+    "grid.uct",
+    "--crac",
+    "crac.json",
+    "--glsk",
+    "glsk.json",
+    "--settings",
+    "settings.json",
+    "--certificate",
+    "certificate.csv",
+];
+
 pub const REDUCED: [&str; 11] = [
     "domain",
     "--grid",
@@ -74,28 +91,48 @@ pub fn words(alloc: Global, texts: &[&str]) -> Result<Vec<String>, AllocError> {
 }
 
 /// The call `rows --rows rows.txt`, with `document` under that name.
-pub fn judge(alloc: Global, document: &[u8]) -> Result<Answer, AllocError> {
-    let mut shelf = MemShelf::new(alloc);
+pub fn judge<R: Threads + Sync + AllocGlobal>(
+    rt: &R,
+    document: &[u8],
+) -> Result<Answer, AllocError> {
+    let mut shelf = MemShelf::new(rt.alloc());
     shelf.add("rows.txt", document)?;
-    call(alloc, &["rows", "--rows", "rows.txt"], &mut shelf)
+    call(rt, &["rows", "--rows", "rows.txt"], &mut shelf)
 }
 
 /// A call with sinks that take everything.
-pub fn call(alloc: Global, texts: &[&str], shelf: &mut MemShelf) -> Result<Answer, AllocError> {
-    let out = MemSink::new(alloc, 10_000)?;
-    let err = MemSink::new(alloc, 10_000)?;
-    call_into(alloc, texts, shelf, out, err)
+pub fn call<R: Threads + Sync + AllocGlobal>(
+    rt: &R,
+    texts: &[&str],
+    shelf: &mut MemShelf,
+) -> Result<Answer, AllocError> {
+    let out = MemSink::new(rt.alloc(), 10_000)?;
+    let err = MemSink::new(rt.alloc(), 10_000)?;
+    call_into(rt, texts, shelf, out, err)
 }
 
 /// A call with these sinks.
-pub fn call_into(
-    alloc: Global,
+pub fn call_into<R: Threads + Sync + AllocGlobal>(
+    rt: &R,
+    texts: &[&str],
+    shelf: &mut MemShelf,
+    out: MemSink,
+    err: MemSink,
+) -> Result<Answer, AllocError> {
+    call_at(rt, texts, shelf, out, err, &OpenGate)
+}
+
+/// A call with these sinks, whose workers pass this gate.
+pub fn call_at<R: Threads + Sync + AllocGlobal, G: Gate + Sync>(
+    rt: &R,
     texts: &[&str],
     shelf: &mut MemShelf,
     mut out: MemSink,
     mut err: MemSink,
+    gate: &G,
 ) -> Result<Answer, AllocError> {
+    let alloc = rt.alloc();
     let words = words(alloc, texts)?;
-    let outcome = fbcc(alloc, words.as_slice(), shelf, &mut out, &mut err);
+    let outcome = fbcc(rt, alloc, words.as_slice(), shelf, &mut out, &mut err, gate);
     Ok(Answer { outcome, out, err })
 }

@@ -450,6 +450,23 @@ pub fn two_nodes(alloc: Global) -> Result<MemShelf, AllocError> {
     shelf_of(alloc, &[BE, NL], LINE, &BASE, TWO, KEYS_OF_TWO)
 }
 
+/// The documents of a triangle, one of whose elements is watched after the outage of a line.
+pub fn after_france(alloc: Global) -> Result<MemShelf, AllocError> {
+    shelf_of(
+        alloc,
+        &[BE, NL, FR],
+        TRIANGLE,
+        &AFTER_FRANCE,
+        THREE,
+        KEYS_OF_THREE,
+    )
+}
+
+/// The documents of a line and a transformer that shifts, side by side.
+pub fn shifted(alloc: Global) -> Result<MemShelf, AllocError> {
+    shelf_of(alloc, &[BE, SECOND_BE], SHIFTED, &ON_BOTH, ONE, KEYS_OF_ONE)
+}
+
 /// Whether the answer is the header with one of the tables.
 fn is_table(alloc: Global, answer: &Answer, case: &Case) -> Result<bool, AllocError> {
     let first = joined(alloc, &[case.header, case.tables[0]])?;
@@ -474,7 +491,7 @@ fn tables_are_printed(rt: HostRuntime) -> Result<(), AllocError> {
             case.settings,
             case.keys,
         )?;
-        let answer = call(rt.alloc(), &DOMAIN, &mut shelf)?;
+        let answer = call(&rt, &DOMAIN, &mut shelf)?;
         let is_table = is_table(rt.alloc(), &answer, case)?;
         let name = case.name;
         assert!(rt; is_table, "{name}");
@@ -493,7 +510,7 @@ fn rows_that_follow_are_removed(rt: HostRuntime) -> Result<(), AllocError> {
             case.settings,
             case.keys,
         )?;
-        let answer = call(rt.alloc(), &DOMAIN, &mut shelf)?;
+        let answer = call(&rt, &DOMAIN, &mut shelf)?;
         let is_table = is_table(rt.alloc(), &answer, case)?;
         let name = case.name;
         assert!(rt; is_table, "{name}");
@@ -508,7 +525,7 @@ fn reductions_lower_a_row(rt: HostRuntime) -> Result<(), AllocError> {
         "reductions.csv",
         b"element,direction,cva,iva\nc1,OPPOSITE,100,20.5\n",
     )?;
-    let answer = call(rt.alloc(), &REDUCED, &mut shelf)?;
+    let answer = call(&rt, &REDUCED, &mut shelf)?;
     let table = joined(
         rt.alloc(),
         &[
@@ -554,7 +571,7 @@ fn each_document_is_refused(rt: HostRuntime) -> Result<(), AllocError> {
         let mut shelf = two_nodes(rt.alloc())?;
         shelf.add("reductions.csv", b"element,direction,cva,iva\n")?;
         shelf.add(document, text.as_bytes())?;
-        let answer = call(rt.alloc(), &REDUCED, &mut shelf)?;
+        let answer = call(&rt, &REDUCED, &mut shelf)?;
         assert_eq!(rt; answer.outcome.status, *status);
         assert_eq!(rt; answer.err.bytes(), line.as_bytes());
         assert!(rt; answer.out.bytes().is_empty());
@@ -579,7 +596,7 @@ fn earlier_documents_are_refused_first(rt: HostRuntime) -> Result<(), AllocError
             let (name, _line) = ORDER[place];
             shelf.add(name, b"x")?;
         }
-        let answer = call(rt.alloc(), &REDUCED, &mut shelf)?;
+        let answer = call(&rt, &REDUCED, &mut shelf)?;
         let (_name, line) = ORDER[first];
         assert_eq!(rt; answer.err.bytes(), line.as_bytes());
     }
@@ -596,7 +613,7 @@ fn split_grids_are_refused(rt: HostRuntime) -> Result<(), AllocError> {
         TWO,
         KEYS_OF_TWO,
     )?;
-    let answer = call(rt.alloc(), &DOMAIN, &mut shelf)?;
+    let answer = call(&rt, &DOMAIN, &mut shelf)?;
     assert_eq!(rt; answer.outcome.status, 12);
     assert_eq!(rt;
         answer.err.bytes(),
@@ -627,14 +644,14 @@ fn numbers_past_range_are_refused(rt: HostRuntime) -> Result<(), AllocError> {
         TWO,
         KEYS_OF_TWO,
     )?;
-    let answer = call(rt.alloc(), &DOMAIN, &mut shelf)?;
+    let answer = call(&rt, &DOMAIN, &mut shelf)?;
     assert_eq!(rt; answer.outcome.status, 13);
     assert_eq!(rt;
         answer.err.bytes(),
         b"numbers past range in state 0\n".as_slice()
     );
     let mut shelf = shelf_of(rt.alloc(), &[STRONG], "", &ON_STRONG, TWO, KEYS_OF_TWO)?;
-    let answer = call(rt.alloc(), &DOMAIN, &mut shelf)?;
+    let answer = call(&rt, &DOMAIN, &mut shelf)?;
     assert_eq!(rt; answer.outcome.status, 0);
     Ok(())
 }
@@ -652,7 +669,7 @@ fn a_shelf_fails_at_each_fetch(rt: HostRuntime) -> Result<(), AllocError> {
         let mut shelf = two_nodes(rt.alloc())?;
         shelf.add("reductions.csv", b"element,direction,cva,iva\n")?;
         shelf.fail_at(fetch as u64 + 1)?;
-        let answer = call(rt.alloc(), &REDUCED, &mut shelf)?;
+        let answer = call(&rt, &REDUCED, &mut shelf)?;
         assert_eq!(rt; answer.outcome.status, 3);
         assert_eq!(rt; answer.err.bytes(), lines[fetch].as_bytes());
         assert!(rt; answer.out.bytes().is_empty());
@@ -666,7 +683,7 @@ fn an_output_fails(rt: HostRuntime) -> Result<(), AllocError> {
     let mut out = MemSink::new(rt.alloc(), 10_000)?;
     out.fail_at(1, 100)?;
     let err = MemSink::new(rt.alloc(), 10_000)?;
-    let answer = call_into(rt.alloc(), &DOMAIN, &mut shelf, out, err)?;
+    let answer = call_into(&rt, &DOMAIN, &mut shelf, out, err)?;
     assert_eq!(rt; answer.outcome.status, 15);
     assert_eq!(rt; answer.out.bytes().len(), 100);
     assert_eq!(rt; answer.err.bytes(), b"cannot write\n".as_slice());
@@ -696,12 +713,12 @@ fn a_later_piece_fails(rt: HostRuntime) -> Result<(), AllocError> {
     let mut shelf = two_nodes(rt.alloc())?;
     let crac = crac_of_many(rt.alloc())?;
     shelf.add("crac.json", crac.as_bytes())?;
-    let whole = call(rt.alloc(), &DOMAIN, &mut shelf)?;
+    let whole = call(&rt, &DOMAIN, &mut shelf)?;
     assert_eq!(rt; whole.outcome.status, 0);
     let mut out = MemSink::new(rt.alloc(), 10_000)?;
     out.fail_at(2, 100)?;
     let err = MemSink::new(rt.alloc(), 10_000)?;
-    let answer = call_into(rt.alloc(), &DOMAIN, &mut shelf, out, err)?;
+    let answer = call_into(&rt, &DOMAIN, &mut shelf, out, err)?;
     assert_eq!(rt; answer.outcome.status, 15);
     assert_eq!(rt; answer.out.bytes().len(), 4_196);
     assert!(rt; whole.out.bytes().starts_with(answer.out.bytes()));
@@ -718,7 +735,7 @@ fn no_other_document_is_fetched(rt: HostRuntime) -> Result<(), AllocError> {
         let mut shelf = two_nodes(rt.alloc())?;
         shelf.add("reductions.csv", b"element,direction,cva,iva\n")?;
         shelf.fail_at(one_more[place])?;
-        let answer = call(rt.alloc(), calls[place], &mut shelf)?;
+        let answer = call(&rt, calls[place], &mut shelf)?;
         assert_eq!(rt; answer.outcome.status, 0);
     }
     Ok(())
@@ -769,7 +786,7 @@ fn other_words_than_those_of_domain_are_refused(rt: HostRuntime) -> Result<(), F
     ];
     for words in lists {
         let mut shelf = MemShelf::new(rt.alloc());
-        let answer = call(rt.alloc(), words, &mut shelf)?;
+        let answer = call(&rt, words, &mut shelf)?;
         assert!(rt; matches!(answer.outcome.fault, Some(Fault::Usage)));
     }
     Ok(())
@@ -808,7 +825,7 @@ fn workers_are_from_1_to_64(rt: HostRuntime) -> Result<(), Fail> {
     for (workers, status) in table {
         let mut shelf = two_nodes(rt.alloc())?;
         let words = with_workers(workers);
-        let answer = call(rt.alloc(), &words, &mut shelf)?;
+        let answer = call(&rt, &words, &mut shelf)?;
         assert_eq!(rt; answer.outcome.status, status);
     }
     Ok(())

@@ -3,6 +3,7 @@
 use crate::calls::{Answer, DOMAIN, REDUCED, call};
 use fb_base::MemShelf;
 use std::alloc::{AllocError, Global};
+use std::thread::Threads;
 
 /// The reactance of a transformer and of a line beside it, the regulation of the transformer in columns 41 to 68, and
 /// the right sides and the gap of the transformer in both directions. At 0.1444 ohm, 10^9 kW/rad, a shift of 10^-12 rad
@@ -133,7 +134,7 @@ fn flows_are_driven(rt: HostRuntime) -> Result<(), AllocError> {
             "##N\n##ZBE\nBBE1AA1  BE1          0 3\nBBE2AA1  BE2          0 0\n##L\nBBE1AA1  BBE2AA1  1 0 0.0000 {reactance}\n##T\nBBE1AA1  BBE2AA1  2 0 380.0 380.0              {reactance}\n##R\nBBE1AA1  BBE2AA1  2                     {regulation}\n"
         )?;
         let mut shelf = shelf_of(rt.alloc(), grid.as_str(), CRAC_OF_ONE, ONE, KEYS_OF_ONE)?;
-        let answer = call(rt.alloc(), &DOMAIN, &mut shelf)?;
+        let answer = call(&rt, &DOMAIN, &mut shelf)?;
         let records = format!(in rt.alloc();
             "\n1,c1,preventive,,DIRECT,CERTAIN,REMOVED,REMOVED,{direct},-250000000000,-250000000000000000000,-250000000000000000000\n2,c1,preventive,,OPPOSITE,CERTAIN,REMOVED,REMOVED,{opposite},250000000000,250000000000000000000,250000000000000000000\n"
         )?;
@@ -185,25 +186,26 @@ const KEYS_OF_TWO: &str =
     "{\"series\":[{\"zone\":\"BE\",\"from\":\"2024-05-01T00:00:00Z\",\"to\":\"2024-05-02T00:00:00Z\",\"blocks\":[{\"business\":\"GSK\",\"share\":100,\"kind\":\"country\"}]},{\"zone\":\"NL\",\"from\":\"2024-05-01T00:00:00Z\",\"to\":\"2024-05-02T00:00:00Z\",\"blocks\":[{\"business\":\"GSK\",\"share\":100,\"kind\":\"country\"}]}]}";
 
 /// What `domain` answers of a line that carries these exchanges.
-fn margin(
-    alloc: Global,
+fn margin<R: Threads + Sync + AllocGlobal>(
+    rt: &R,
     outside: &str,
     beside: &str,
     reductions: &str,
 ) -> Result<Answer, AllocError> {
+    let alloc = rt.alloc();
     let grid = format!(in alloc;
         "##N\n##ZBE\nBBE1AA1  BE1          0 3\n##ZNL\nNNL1AA1  NL1          0 0\n##ZFR\nFFR1AA1  FR1          0 0           0.00         -{outside}\n##ZDE\nDDE1AA1  DE1          0 0           {outside}\n##ZGB\nGGB1AA1  GB1          0 0           0.00         -{beside}\nGGB2AA1  GB2          0 0           {beside}\n##L\nFFR1AA1  BBE1AA1  1 0 0.0000 14.440\nGGB1AA1  BBE1AA1  1 0 0.0000 14.440\nBBE1AA1  NNL1AA1  1 0 0.0000 14.440\nNNL1AA1  DDE1AA1  1 0 0.0000 14.440\nNNL1AA1  GGB2AA1  1 0 0.0000 14.440\n"
     )?;
     let mut shelf = shelf_of(alloc, grid.as_str(), CRAC_OF_TWO, TWO, KEYS_OF_TWO)?;
     let document = format!(in alloc; "element,direction,cva,iva\nc1,DIRECT,{reductions}\n")?;
     shelf.add("reductions.csv", document.as_bytes())?;
-    call(alloc, &REDUCED, &mut shelf)
+    call(rt, &REDUCED, &mut shelf)
 }
 
 #[test]
 fn margins_are_adjusted(rt: HostRuntime) -> Result<(), AllocError> {
     for (outside, beside, reductions, sides) in MARGINS {
-        let answer = margin(rt.alloc(), outside, beside, reductions)?;
+        let answer = margin(&rt, outside, beside, reductions)?;
         let exact = format!(in rt.alloc(); ",KEPT,{},0,-1000000000000,,\n", sides[0])?;
         let near = format!(in rt.alloc(); ",KEPT,{},0,-1000000000000,,\n", sides[1])?;
         let out = answer.out.bytes();

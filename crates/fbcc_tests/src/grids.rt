@@ -3,6 +3,7 @@
 use crate::calls::{Answer, call};
 use fb_base::MemShelf;
 use std::alloc::{AllocError, Global};
+use std::thread::Threads;
 
 const NODES: &str =
     "##N\n##ZBE\nBBE1AA1  x            0 3 380.00    0.00    0.00    0.00\n##ZNL\nNNL1AA1  x            0 0 380.00    0.00    0.00    0.00\n";
@@ -299,10 +300,10 @@ const NETS: [(&str, &[u8], &[u8]); 7] = [
 ];
 
 /// What `net` answers of a file.
-fn net(alloc: Global, file: &[u8]) -> Result<Answer, AllocError> {
-    let mut shelf = MemShelf::new(alloc);
+fn net<R: Threads + Sync + AllocGlobal>(rt: &R, file: &[u8]) -> Result<Answer, AllocError> {
+    let mut shelf = MemShelf::new(rt.alloc());
     shelf.add("grid.uct", file)?;
-    call(alloc, &["net", "--grid", "grid.uct"], &mut shelf)
+    call(rt, &["net", "--grid", "grid.uct"], &mut shelf)
 }
 
 #[test]
@@ -312,12 +313,12 @@ fn grids_are_read(rt: HostRuntime) -> Result<(), AllocError> {
         for part in parts {
             file.push_str(part)?;
         }
-        let answer = net(rt.alloc(), file.as_bytes())?;
+        let answer = net(&rt, file.as_bytes())?;
         assert_eq!(rt; answer.outcome.status, 5, "{name}");
         assert_eq!(rt; answer.err.bytes(), line.as_bytes(), "{name}");
     }
     for (name, file, text) in NETS {
-        let answer = net(rt.alloc(), file)?;
+        let answer = net(&rt, file)?;
         assert_eq!(rt; answer.out.bytes(), text, "{name}");
     }
     Ok(())

@@ -3,6 +3,7 @@
 use crate::calls::{Answer, DOMAIN, call};
 use fb_base::MemShelf;
 use std::alloc::{AllocError, Global};
+use std::thread::Threads;
 
 /// A line from each node to the Dutch one. The first Belgian node has 10 W of load and 30 W produced, the second 5 W of
 /// load and a pump of 20 W.
@@ -179,25 +180,25 @@ const KEYS: [(&str, &str); 7] = [
 ];
 
 /// What `domain` answers with a GLSK document.
-fn answer(alloc: Global, document: &str) -> Result<Answer, AllocError> {
-    let mut shelf = MemShelf::new(alloc);
+fn answer<R: Threads + Sync + AllocGlobal>(rt: &R, document: &str) -> Result<Answer, AllocError> {
+    let mut shelf = MemShelf::new(rt.alloc());
     shelf.add("grid.uct", GRID.as_bytes())?;
     shelf.add("crac.json", CRAC.as_bytes())?;
     shelf.add("settings.json", SETTINGS.as_bytes())?;
     shelf.add("glsk.json", document.as_bytes())?;
-    call(alloc, &DOMAIN, &mut shelf)
+    call(rt, &DOMAIN, &mut shelf)
 }
 
 #[test]
 fn keys_are_read(rt: HostRuntime) -> Result<(), AllocError> {
     for (document, line) in FAULTS {
-        let answer = answer(rt.alloc(), document)?;
+        let answer = answer(&rt, document)?;
         let line = format!(in rt.alloc(); "{line}\n")?;
         assert_eq!(rt; answer.outcome.status, 8, "{document}");
         assert_eq!(rt; answer.err.bytes(), line.as_bytes(), "{document}");
     }
     for (document, end) in KEYS {
-        let answer = answer(rt.alloc(), document)?;
+        let answer = answer(&rt, document)?;
         assert_eq!(rt; answer.outcome.status, 0, "{document}");
         assert!(rt; answer.out.bytes().ends_with(end.as_bytes()), "{document}");
     }

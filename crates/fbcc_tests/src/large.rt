@@ -73,7 +73,7 @@ fn chain(alloc: Global) -> Result<String, AllocError> {
 fn a_long_chain(rt: HostRuntime) -> Result<(), AllocError> {
     let grid = chain(rt.alloc())?;
     let mut shelf = shelf_of(rt.alloc(), grid.as_str(), "CN09991  CN10001  1")?;
-    let answer = call(rt.alloc(), &DOMAIN, &mut shelf)?;
+    let answer = call(&rt, &DOMAIN, &mut shelf)?;
     assert_eq!(rt; answer.outcome.status, 0);
     let table =
         "row,element,instant,contingency,direction,class,inner,outer,r_in,r_out,gap,a:BE,a:NL,inner_by,outer_by\n1,c1,preventive,,DIRECT,CERTAIN,KEPT,KEPT,400000000,400000000,0,0,-1000000000000,,\n2,c1,preventive,,OPPOSITE,CERTAIN,KEPT,KEPT,400000000,400000000,0,0,1000000000000,,\n";
@@ -89,7 +89,7 @@ const RING: &str =
 #[test]
 fn strong_lines_beside_weak_ones(rt: HostRuntime) -> Result<(), AllocError> {
     let mut shelf = shelf_of(rt.alloc(), RING, "BBE2AA1  NNL1AA1  1")?;
-    let answer = call(rt.alloc(), &DOMAIN, &mut shelf)?;
+    let answer = call(&rt, &DOMAIN, &mut shelf)?;
     assert_eq!(rt; answer.outcome.status, 0);
     let first =
         "row,element,instant,contingency,direction,class,inner,outer,r_in,r_out,gap,a:BE,a:NL,inner_by,outer_by\n1,c1,preventive,,DIRECT,CERTAIN,KEPT,KEPT,";

@@ -4,6 +4,8 @@
 #[cfg(test)]
 mod calls;
 #[cfg(test)]
+mod checks;
+#[cfg(test)]
 mod cracs;
 #[cfg(test)]
 mod domain;
@@ -25,3 +27,5 @@ mod rows;
 mod settings;
 #[cfg(test)]
 mod shared;
+#[cfg(test)]
+mod workers;

@@ -1,7 +1,7 @@
 //! The commands `certify` and `report`: what else is printed of a domain.
 
 use crate::calls::{CERTIFY, REPORT, call};
-use crate::domain::two_nodes;
+use crate::domain::{shifted, two_nodes};
 use std::alloc::AllocError;
 
 /// The certificate of two nodes, up to the barrier of the second one, and from there on. Angles are in 10^-16 rad: the
@@ -20,7 +20,7 @@ const REPORT_OF_TWO: &str =
 #[test]
 fn certificates_are_printed(rt: HostRuntime) -> Result<(), AllocError> {
     let mut shelf = two_nodes(rt.alloc())?;
-    let answer = call(rt.alloc(), &CERTIFY, &mut shelf)?;
+    let answer = call(&rt, &CERTIFY, &mut shelf)?;
     let mut is_printed = false;
     for barrier in &BARRIERS {
         let text = format!(in rt.alloc(); "{BEFORE_BARRIER}{barrier}{BEHIND_BARRIER}")?;
@@ -36,8 +36,24 @@ fn certificates_are_printed(rt: HostRuntime) -> Result<(), AllocError> {
 #[test]
 fn reports_are_printed(rt: HostRuntime) -> Result<(), AllocError> {
     let mut shelf = two_nodes(rt.alloc())?;
-    let answer = call(rt.alloc(), &REPORT, &mut shelf)?;
+    let answer = call(&rt, &REPORT, &mut shelf)?;
     assert_eq!(rt; answer.out.bytes(), REPORT_OF_TWO.as_bytes());
     assert_eq!(rt; answer.outcome.status, 0);
+    Ok(())
+}
+
+/// The line carries -249,791,978.615 W and the transformer as much the other way.
+#[test]
+fn reports_tell_the_flow_of_a_phase_shifter(rt: HostRuntime) -> Result<(), AllocError> {
+    let mut shelf = shifted(rt.alloc())?;
+    let answer = call(&rt, &REPORT, &mut shelf)?;
+    assert_eq!(rt; answer.outcome.status, 0);
+    let report = str::from_utf8(answer.out.bytes()).unwrap_or("");
+    let of_line =
+        "\"direction\":\"DIRECT\",\"element\":\"c1\",\"f0all\":[-249791979,-249791978],\"f0core\":[-249791979,-249791978],\"fref\":[-249791979,-249791978]";
+    let of_transformer =
+        "\"direction\":\"DIRECT\",\"element\":\"c2\",\"f0all\":[249791978,249791979],\"f0core\":[249791978,249791979],\"fref\":[249791978,249791979]";
+    assert!(rt; report.contains(of_line));
+    assert!(rt; report.contains(of_transformer));
     Ok(())
 }

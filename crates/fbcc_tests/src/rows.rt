@@ -33,6 +33,7 @@ enum Want {
 
 use Change::{Before, Line};
 use Want::{Bad, No, Yes};
+use std::thread::Threads;
 
 /// The example with a change.
 fn changed(alloc: Global, change: Change) -> Result<String, AllocError> {
@@ -57,8 +58,13 @@ fn changed(alloc: Global, change: Change) -> Result<String, AllocError> {
 }
 
 /// Whether the document is answered as it must be.
-fn is_answered(alloc: Global, document: &[u8], want: Want) -> Result<bool, AllocError> {
-    let answer = judge(alloc, document)?;
+fn is_answered<R: Threads + Sync + AllocGlobal>(
+    rt: &R,
+    document: &[u8],
+    want: Want,
+) -> Result<bool, AllocError> {
+    let alloc = rt.alloc();
+    let answer = judge(rt, document)?;
     let (status, out, err) = match want {
         Yes => (0, format!(in alloc; "yes\n")?, String::new(alloc)),
         No(row) => (
@@ -221,16 +227,10 @@ const CASES: [(&str, Change, Want); 51] = [
 fn documents_are_judged(rt: HostRuntime) -> Result<(), AllocError> {
     for (name, change, want) in &CASES {
         let document = changed(rt.alloc(), *change)?;
-        assert!(rt;
-            is_answered(rt.alloc(), document.as_bytes(), *want)?,
-            "{name}"
-        );
+        assert!(rt; is_answered(&rt, document.as_bytes(), *want)?, "{name}");
     }
-    assert!(rt; is_answered(rt.alloc(), b"", Bad(1))?, "an empty document");
-    assert!(rt;
-        is_answered(rt.alloc(), b"\n", Bad(1))?,
-        "a line feed alone"
-    );
+    assert!(rt; is_answered(&rt, b"", Bad(1))?, "an empty document");
+    assert!(rt; is_answered(&rt, b"\n", Bad(1))?, "a line feed alone");
     Ok(())
 }
 
@@ -265,7 +265,7 @@ fn the_greatest_documents_are_judged(rt: HostRuntime) -> Result<(), AllocError> 
     ] {
         let document = large(rt.alloc(), zones, rows)?;
         assert!(rt;
-            is_answered(rt.alloc(), document.as_bytes(), want)?,
+            is_answered(&rt, document.as_bytes(), want)?,
             "{zones} zones, {rows} rows"
         );
     }
@@ -284,7 +284,7 @@ fn a_document_past_the_limit_is_too_long(rt: HostRuntime) -> Result<(), Fail> {
         (67_108_865, 4, "rows is longer than 67108864 bytes\n"),
     ] {
         let document = empty_lines(rt.alloc(), size)?;
-        let answer = judge(rt.alloc(), document.as_slice())?;
+        let answer = judge(&rt, document.as_slice())?;
         assert_eq!(rt; answer.outcome.status, status);
         assert!(rt; answer.out.bytes().is_empty());
         assert!(rt; answer.err.bytes() == err.as_bytes());
@@ -316,12 +316,12 @@ fn other_words_are_refused(rt: HostRuntime) -> Result<(), Fail> {
         &["--", "rows", "--rows", "rows.txt"],
         &["certify", "--rows", "rows.txt"],
         &["check", "--rows", "rows.txt"],
-        &["selftest", "--case", "1", "--nodes", "48"],
+        &["selftest", "--case", "1", "--nodes", "47"],
     ];
     for texts in lists {
         let mut shelf = MemShelf::new(rt.alloc());
         shelf.fail_at(1)?;
-        let answer = call(rt.alloc(), texts, &mut shelf)?;
+        let answer = call(&rt, texts, &mut shelf)?;
         assert_eq!(rt; answer.outcome.status, 2);
         assert!(rt; matches!(answer.outcome.fault, Some(Fault::Usage)));
         assert!(rt; answer.out.bytes().is_empty());
@@ -346,7 +346,7 @@ fn words_are_taken_by_their_forms(rt: HostRuntime) -> Result<(), Fail> {
     for (texts, name) in calls {
         let mut shelf = MemShelf::new(rt.alloc());
         shelf.add(name, document.as_bytes())?;
-        let answer = call(rt.alloc(), texts, &mut shelf)?;
+        let answer = call(&rt, texts, &mut shelf)?;
         assert_eq!(rt; answer.outcome.status, 0);
         assert_eq!(rt; answer.out.bytes(), b"yes\n".as_slice());
     }
@@ -368,7 +368,7 @@ fn a_shelf_that_fails_is_told(rt: HostRuntime) -> Result<(), Fail> {
         if failing {
             shelf.fail_at(1)?;
         }
-        let answer = call(rt.alloc(), &["rows", "--rows", name], &mut shelf)?;
+        let answer = call(&rt, &["rows", "--rows", name], &mut shelf)?;
         assert_eq!(rt; answer.outcome.status, 3);
         assert!(rt;
             matches!(
@@ -383,7 +383,7 @@ fn a_shelf_that_fails_is_told(rt: HostRuntime) -> Result<(), Fail> {
     }
     let mut shelf = shelf_of(rt.alloc())?;
     shelf.fail_at(2)?;
-    let answer = call(rt.alloc(), &["rows", "--rows", "rows.txt"], &mut shelf)?;
+    let answer = call(&rt, &["rows", "--rows", "rows.txt"], &mut shelf)?;
     assert_eq!(rt; answer.outcome.status, 0);
     Ok(())
 }
@@ -395,13 +395,7 @@ fn an_output_that_fails_is_told(rt: HostRuntime) -> Result<(), Fail> {
         let mut sink = MemSink::new(rt.alloc(), 100)?;
         sink.fail_at(1, taken)?;
         let err = MemSink::new(rt.alloc(), 100)?;
-        let answer = call_into(
-            rt.alloc(),
-            &["rows", "--rows", "rows.txt"],
-            &mut shelf,
-            sink,
-            err,
-        )?;
+        let answer = call_into(&rt, &["rows", "--rows", "rows.txt"], &mut shelf, sink, err)?;
         assert_eq!(rt; answer.outcome.status, 15);
         assert!(rt; matches!(answer.outcome.fault, Some(Fault::WriteFault)));
         assert!(rt; answer.out.bytes() == out.as_bytes());
@@ -416,13 +410,7 @@ fn an_error_output_that_fails_changes_nothing(rt: HostRuntime) -> Result<(), Fai
     let out = MemSink::new(rt.alloc(), 100)?;
     let mut err = MemSink::new(rt.alloc(), 100)?;
     err.fail_at(1, 6)?;
-    let answer = call_into(
-        rt.alloc(),
-        &["rows", "--rows", "rows.txt"],
-        &mut shelf,
-        out,
-        err,
-    )?;
+    let answer = call_into(&rt, &["rows", "--rows", "rows.txt"], &mut shelf, out, err)?;
     assert_eq!(rt; answer.outcome.status, 3);
     assert!(rt; answer.err.bytes() == b"cannot".as_slice());
     Ok(())
@@ -431,7 +419,7 @@ fn an_error_output_that_fails_changes_nothing(rt: HostRuntime) -> Result<(), Fai
 #[test]
 fn a_no_names_its_line_and_reason(rt: HostRuntime) -> Result<(), Fail> {
     let document = changed(rt.alloc(), Line(1, "bounds,-101,101\n"))?;
-    let answer = judge(rt.alloc(), document.as_bytes())?;
+    let answer = judge(&rt, document.as_bytes())?;
     assert!(rt;
         matches!(
             answer.outcome.fault,

@@ -4,6 +4,7 @@
 use crate::calls::{Answer, DOMAIN, REDUCED, call};
 use fb_base::MemShelf;
 use std::alloc::{AllocError, Global};
+use std::thread::Threads;
 
 const GRID: &str =
     "##N\n##ZBE\nBBE1AA1  BE1          0 3\n##ZNL\nNNL1AA1  NL1          0 0\n##L\nBBE1AA1  NNL1AA1  1 0 0.0000 14.440\n";
@@ -309,40 +310,45 @@ const DECIMALS: [(&str, &str, i64); 8] = [
 ];
 
 /// What `domain` answers where a document stands in the place of one of two nodes.
-fn answer(alloc: Global, words: &[&str], name: &str, document: &str) -> Result<Answer, AllocError> {
-    let mut shelf = MemShelf::new(alloc);
+fn answer<R: Threads + Sync + AllocGlobal>(
+    rt: &R,
+    words: &[&str],
+    name: &str,
+    document: &str,
+) -> Result<Answer, AllocError> {
+    let mut shelf = MemShelf::new(rt.alloc());
     shelf.add("grid.uct", GRID.as_bytes())?;
     shelf.add("crac.json", CRAC.as_bytes())?;
     shelf.add("settings.json", SETTINGS.as_bytes())?;
     shelf.add("glsk.json", KEYS.as_bytes())?;
     shelf.add(name, document.as_bytes())?;
-    call(alloc, words, &mut shelf)
+    call(rt, words, &mut shelf)
 }
 
 /// The first document of a table that is not answered with its fault line.
-fn first_wrong(
-    alloc: Global,
+fn first_wrong<R: Threads + Sync + AllocGlobal>(
+    rt: &R,
     words: &[&str],
     name: &str,
     table: &[(&str, &str)],
 ) -> Result<String, AllocError> {
     for (document, line) in table {
-        let answer = answer(alloc, words, name, document)?;
-        let line = format!(in alloc; "{line}\n")?;
+        let answer = answer(rt, words, name, document)?;
+        let line = format!(in rt.alloc(); "{line}\n")?;
         if answer.err.bytes() != line.as_bytes() {
-            return format!(in alloc; "wrong: {document}");
+            return format!(in rt.alloc(); "wrong: {document}");
         }
     }
-    Ok(String::new(alloc))
+    Ok(String::new(rt.alloc()))
 }
 
 #[test]
 fn documents_are_refused(rt: HostRuntime) -> Result<(), AllocError> {
-    let wrong = first_wrong(rt.alloc(), &DOMAIN, "settings.json", &FAULTS)?;
+    let wrong = first_wrong(&rt, &DOMAIN, "settings.json", &FAULTS)?;
     assert_eq!(rt; wrong.as_str(), "");
-    let wrong = first_wrong(rt.alloc(), &DOMAIN, "crac.json", &TEXTS)?;
+    let wrong = first_wrong(&rt, &DOMAIN, "crac.json", &TEXTS)?;
     assert_eq!(rt; wrong.as_str(), "");
-    let wrong = first_wrong(rt.alloc(), &REDUCED, "reductions.csv", &REFUSED)?;
+    let wrong = first_wrong(&rt, &REDUCED, "reductions.csv", &REFUSED)?;
     assert_eq!(rt; wrong.as_str(), "");
     Ok(())
 }
@@ -353,7 +359,7 @@ fn reductions_are_taken_off(rt: HostRuntime) -> Result<(), AllocError> {
         let document = format!(in rt.alloc();
             "element,direction,cva,iva\nc1,DIRECT,{cva},{iva}\n"
         )?;
-        let answer = answer(rt.alloc(), &REDUCED, "reductions.csv", document.as_str())?;
+        let answer = answer(&rt, &REDUCED, "reductions.csv", document.as_str())?;
         let record = format!(in rt.alloc();
             "\n1,c1,preventive,,DIRECT,CERTAIN,KEPT,KEPT,{left},{left},0,0,-1000000000000,,\n"
         )?;
@@ -368,7 +374,7 @@ fn reductions_are_taken_off(rt: HostRuntime) -> Result<(), AllocError> {
 #[test]
 fn settings_are_taken(rt: HostRuntime) -> Result<(), AllocError> {
     for (document, end) in TAKEN {
-        let answer = answer(rt.alloc(), &DOMAIN, "settings.json", document)?;
+        let answer = answer(&rt, &DOMAIN, "settings.json", document)?;
         assert!(rt; answer.out.bytes().ends_with(end.as_bytes()), "{document}");
     }
     Ok(())

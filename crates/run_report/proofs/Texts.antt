@@ -1,6 +1,6 @@
--- The text of a report is that of its pieces, one after another.
+-- The texts of a report and of a summary are those of their pieces, one after another.
 use Rattle.std.proofs.Common.{◌≡◌, ℕ, ◌+◌, ◌<◌, ℤ, pos, negsuc, Bool, true, false, List, [], ◌∷◌, ◌++◌, length, map, take, get_or, refl, sym, ap, ◌∙◌, arith, append_assoc}
-use Rattle.std.specs.Prelude.{codes}
+use Rattle.std.specs.Prelude.{codes, decimal}
 use Rattle.std.specs.Fmt.{signed_decimal}
 use Rattle.std.proofs.lemmas.List.{append-nil, length-take, take_more}
 use Rattle.serde_json.specs.Data.{Data, string, array, object, member, no_members}
@@ -11,8 +11,11 @@ use Rattle.cnec_rows.specs.declared.types.RowProof.{RowProof}
 use Rattle.cnec_rows.specs.declared.types.RowSpans.{RowSpans}
 use Rattle.domain_report.specs.DomainTexts.{class_word, direction_word}
 use Rattle.serde_json.proofs.OnLiterals.{serde_json_on_literals}
-use Rattle.run_report.specs.Lines.{array_text, joined, labels_text, line_text, margins_text, row_text, with_text, without_text}
-use Rattle.run_report.specs.ReportTexts.{count, ends, gap_of, row_tree, watts, whole}
+use Rattle.run_report.specs.Lines.{array_text, joined, labels_text, line_text, margins_text, row_text, summary_lines, with_text, without_text}
+use Rattle.fb_certificate.specs.Lists.{inner_list, outer_list}
+use Rattle.fb_certificate.specs.declared.types.Certificate.{Certificate}
+use Rattle.run_report.specs.ReportTexts.{count, count_where, ends, gap_of, greatest_gap, is_below, is_doubtful, kept_count, removed_count, row_tree, watts, whole}
+use Rattle.run_report.specs.SummaryTexts.{summary_text}
 use Rattle.run_report.specs.declared.summary.Summary.{Summary}
 
 -- ---- arrays
@@ -108,3 +111,27 @@ pub line_is : (s : Summary) (notes rows : Data)
     s.outer_removed rows) ++ 10 ∷ []
 unfolding serde_json_on_literals
 line_is s notes rows = simp (append_assoc, whole_text)
+
+-- ---- the summary of a generated case
+
+-- the counts of a certificate, and its greatest gap
+abbrev pub counts_of : Certificate → Summary
+counts_of c = record {
+  below = count_where is_below c.rows;
+  doubtful = count_where is_doubtful c.rows;
+  greatest_gap = greatest_gap c.rows;
+  inner_kept = kept_count inner_list c.rows c.inner;
+  inner_removed = removed_count c.inner;
+  outer_kept = kept_count outer_list c.rows c.outer;
+  outer_removed = removed_count c.outer;
+}
+
+pub summary_is : (case nodes : ℕ) (c : Certificate)
+    → summary_lines case nodes (length c.rows) (counts_of c) ≡ summary_text case nodes c
+summary_is case nodes c =
+    simp (
+      append_assoc,
+      append_assoc (decimal (length c.rows)) (10 ∷ []),
+      append_assoc (decimal (count_where is_below c.rows)) (10 ∷ []),
+      append_assoc (decimal (count_where is_doubtful c.rows)) (10 ∷ []),
+    )

@@ -1,2 +1,3 @@
 pub mod ReportTexts
+pub mod SummaryTexts
 pub mod Lines

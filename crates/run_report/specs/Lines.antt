@@ -1,4 +1,4 @@
--- How the text of a report is put together: words of private contracts, which nobody need believe.
+-- How the texts of a report and of a summary are put together: words of private contracts, which nobody need believe.
 use Rattle.std.specs.Prelude.{ℕ, ℤ, Bool, true, false, List, [], ◌∷◌, ◌++◌, codes, decimal}
 use Rattle.std.specs.Fmt.{signed_decimal}
 use Rattle.serde_json.specs.Data.{string}
@@ -70,3 +70,33 @@ outer_text s =
 
 abbrev pub line_text : Summary → List ℕ → List ℕ → List ℕ
 line_text s notes rows = classes_text s ++ (inner_text s ++ (notes ++ (outer_text s ++ (rows ++ 125 ∷ 10 ∷ []))))
+
+-- ---- The summary of a generated case
+
+-- the lines of the case and of its rows
+abbrev pub size_lines : ℕ → ℕ → ℕ → List ℕ
+size_lines case nodes rows =
+    codes "case " ++ (decimal case ++ (codes " nodes " ++ (decimal nodes
+    ++ (10 ∷ (codes "rows " ++ (decimal rows ++ 10 ∷ []))))))
+
+abbrev pub class_lines : Summary → List ℕ
+class_lines s =
+    codes "below " ++ (decimal s.below ++ (10 ∷ (codes "doubtful " ++ (decimal s.doubtful ++ 10 ∷ []))))
+
+-- the line of a list
+abbrev pub list_line : List ℕ → ℕ → ℕ → List ℕ
+list_line list kept removed =
+    list ++ (codes " kept " ++ (decimal kept ++ (codes " removed " ++ (decimal removed ++ 10 ∷ []))))
+
+abbrev pub list_lines : Summary → List ℕ
+list_lines s =
+    list_line (codes "inner") s.inner_kept s.inner_removed ++ list_line (codes "outer") s.outer_kept s.outer_removed
+
+abbrev pub gap_line : ℤ → List ℕ
+gap_line gap = codes "greatest gap " ++ (signed_decimal gap ++ 10 ∷ [])
+
+-- all of them
+abbrev pub summary_lines : ℕ → ℕ → ℕ → Summary → List ℕ
+summary_lines case nodes rows s =
+    size_lines case nodes rows
+    ++ (class_lines s ++ (list_lines s ++ (gap_line s.greatest_gap ++ (codes "check yes" ++ 10 ∷ []))))

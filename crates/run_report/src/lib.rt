@@ -1,4 +1,4 @@
-//! The report of a run: one line of JSON.
+//! The report of a run, one line of JSON, and the summary of a generated case.
 #![tactic(auto)]
 
 ghost use Rattle.std.specs.Prelude.{◌≡◌, IfOk, string_bytes};
@@ -7,12 +7,14 @@ ghost use Rattle.fb_certificate.specs.Whole.{IsWhole};
 ghost use Rattle.run_report.specs.Lines.{classes_text, gap_text, inner_text, line_text, outer_text};
 ghost use Rattle.run_report.specs.ReportTexts.{IsReport};
 
+mod case_summary;
 mod json;
 mod notes;
 mod rows;
 mod spans;
 mod summary;
 
+pub use case_summary::write_summary;
 use fb_certificate::{Certificate, Inputs};
 use json::array_text;
 use notes::notes;

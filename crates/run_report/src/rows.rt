@@ -15,6 +15,7 @@ use crate::json::{quoted, span_text, watts_text};
 use crate::summary::gap;
 use cnec_rows::RowSpans;
 use cnec_selection::Class;
+use domain_report::class_word;
 use fb_certificate::{Certificate, Direction, Inputs, RowProof, run_rows};
 use fb_types::{Element, Items, Text};
 use std::alloc::{AllocError, Global};
@@ -129,15 +130,5 @@ fn direction_word(direction: Direction) -> &'static str
     match direction {
         Direction::Direct => "DIRECT",
         Direction::Opposite => "OPPOSITE",
-    }
-}
-
-fn class_word(class: Class) -> &'static str
-    ensures { result.now ≡ class_word class }
-{
-    match class {
-        Class::Below => "BELOW",
-        Class::Doubtful => "DOUBTFUL",
-        Class::Certain => "CERTAIN",
     }
 }

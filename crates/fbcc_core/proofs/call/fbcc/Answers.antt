@@ -1,4 +1,4 @@
-use Rattle.fbcc_core.proofs.Answered.{kept_caused, misused_kept, usage_kept, refuses, judges, completes, prints_capacity}
+use Rattle.fbcc_core.proofs.Answered.{kept_caused, misused_kept, usage_kept, refuses, judges, completes, verifies, prints_capacity, checks_capacity, prints_summary}
 use Rattle.fbcc_core.proofs.call.fbcc.Goals as goal
 
 pub returns-clause-usage : goal.returns-clause-usage
@@ -21,3 +21,12 @@ returns-clause-completes g c = completes _ _ _ _ (kept_caused _ _ _ _ _ c.tell-f
 
 pub returns-clause-capacity : goal.returns-clause-capacity
 returns-clause-capacity g c = prints_capacity _ _ _ _ (kept_caused _ _ _ _ _ c.tell-fault.ensures.kept c.answer_to-answer.ensures.caused)
+
+pub returns-clause-verifies : goal.returns-clause-verifies
+returns-clause-verifies g c = verifies _ _ _ _ (kept_caused _ _ _ _ _ c.tell-fault.ensures.kept c.answer_to-answer.ensures.caused)
+
+pub returns-clause-checked : goal.returns-clause-checked
+returns-clause-checked g c = checks_capacity _ _ _ _ (kept_caused _ _ _ _ _ c.tell-fault.ensures.kept c.answer_to-answer.ensures.caused)
+
+pub returns-clause-tested : goal.returns-clause-tested
+returns-clause-tested g c = prints_summary _ _ _ _ (kept_caused _ _ _ _ _ c.tell-fault.ensures.kept c.answer_to-answer.ensures.caused)

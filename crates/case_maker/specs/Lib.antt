@@ -1,0 +1,9 @@
+pub mod CaseTexts
+pub mod CracTexts
+pub mod Drawing
+pub mod GridTexts
+pub mod Json
+pub mod Layout
+pub mod Naming
+pub mod Pieces
+pub mod ZoneTexts

@@ -1,0 +1,3 @@
+pub mod DueLengths
+pub mod FileVerdicts
+pub mod GoodLines

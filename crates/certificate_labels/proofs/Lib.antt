@@ -1,0 +1,4 @@
+pub mod Comparisons
+pub mod Fields
+pub mod Listing
+pub mod Written
