@@ -1,8 +1,9 @@
-//! The commands `certify` and `report`: what else is printed of a domain.
+//! The commands `certify` and `report`: what else is printed of a domain, and that `check` accepts it.
 
-use crate::calls::{CERTIFY, REPORT, call};
-use crate::domain::{shifted, two_nodes};
+use crate::domain::{after_france, shifted};
 use std::alloc::AllocError;
+use test_calls::calls::{CERTIFY, CHECK, REPORT, call};
+use test_calls::documents::two_nodes;
 
 /// The certificate of two nodes, up to the barrier of the second one, and from there on. Angles are in 10^-16 rad: the
 /// weight of the Dutch node, of 10^12, is met where the line of 10^7 kW/rad turns by 10^18.
@@ -55,5 +56,17 @@ fn reports_tell_the_flow_of_a_phase_shifter(rt: HostRuntime) -> Result<(), Alloc
         "\"direction\":\"DIRECT\",\"element\":\"c2\",\"f0all\":[249791978,249791979],\"f0core\":[249791978,249791979],\"fref\":[249791978,249791979]";
     assert!(rt; report.contains(of_line));
     assert!(rt; report.contains(of_transformer));
+    Ok(())
+}
+
+/// What `certify` prints of a grid with an outage is accepted.
+#[test]
+fn printed_certificates_are_accepted(rt: HostRuntime) -> Result<(), AllocError> {
+    let mut shelf = after_france(rt.alloc())?;
+    let printed = call(&rt, &CERTIFY, &mut shelf)?;
+    shelf.add("certificate.csv", printed.out.bytes())?;
+    let answer = call(&rt, &CHECK, &mut shelf)?;
+    assert_eq!(rt; answer.outcome.status, 0);
+    assert_eq!(rt; answer.out.bytes(), b"yes\n".as_slice());
     Ok(())
 }

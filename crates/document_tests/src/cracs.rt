@@ -1,8 +1,8 @@
 //! CRAC documents by the command `domain`: the first fault of each, and the limits that thresholds make.
 
-use crate::calls::{DOMAIN, call};
-use fb_base::MemShelf;
 use std::alloc::{AllocError, Global};
+use test_calls::calls::{DOMAIN, call};
+use test_calls::documents::shelf_of;
 
 /// A tie line, a line, a line with a blank order code, and two open couplers.
 const NAMED: &str =
@@ -242,22 +242,6 @@ const LIMITS: [(&str, i64, i64); 12] = [
         190_525_588,
     ),
 ];
-
-const SETTINGS: &str =
-    "{\"moment\":\"2024-05-01T10:30:00Z\",\"zones\":[{\"id\":\"BE\",\"min\":-1000,\"max\":1000},{\"id\":\"NL\",\"min\":-1000,\"max\":1000}]}";
-
-const KEYS: &str =
-    "{\"series\":[{\"zone\":\"BE\",\"from\":\"2024-05-01T00:00:00Z\",\"to\":\"2024-05-02T00:00:00Z\",\"blocks\":[{\"business\":\"GSK\",\"share\":100,\"kind\":\"country\"}]},{\"zone\":\"NL\",\"from\":\"2024-05-01T00:00:00Z\",\"to\":\"2024-05-02T00:00:00Z\",\"blocks\":[{\"business\":\"GSK\",\"share\":100,\"kind\":\"country\"}]}]}";
-
-/// A shelf with a grid and a CRAC.
-fn shelf_of(alloc: Global, grid: &str, crac: &str) -> Result<MemShelf, AllocError> {
-    let mut shelf = MemShelf::new(alloc);
-    shelf.add("grid.uct", grid.as_bytes())?;
-    shelf.add("crac.json", crac.as_bytes())?;
-    shelf.add("settings.json", SETTINGS.as_bytes())?;
-    shelf.add("glsk.json", KEYS.as_bytes())?;
-    Ok(shelf)
-}
 
 #[test]
 fn cracs_are_refused(rt: HostRuntime) -> Result<(), AllocError> {

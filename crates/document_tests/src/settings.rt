@@ -1,10 +1,10 @@
 //! Settings, reductions and JSON documents by the command `domain`: the first fault of each, and the numbers that
 //! decimals are.
 
-use crate::calls::{Answer, DOMAIN, REDUCED, call};
 use fb_base::MemShelf;
 use std::alloc::{AllocError, Global};
 use std::thread::Threads;
+use test_calls::calls::{Answer, DOMAIN, REDUCED, call};
 
 const GRID: &str =
     "##N\n##ZBE\nBBE1AA1  BE1          0 3\n##ZNL\nNNL1AA1  NL1          0 0\n##L\nBBE1AA1  NNL1AA1  1 0 0.0000 14.440\n";

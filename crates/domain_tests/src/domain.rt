@@ -1,10 +1,11 @@
-//! The command `domain`: tables that were worked out by hand, refusals in their order, and an outside that fails.
+//! The command `domain`: tables that were worked out by hand, states that are refused, and words.
 
-use crate::calls::{Answer, DOMAIN, REDUCED, call, call_into};
-use fb_base::{MemShelf, MemSink};
-use fbcc_core::{Document, Fault};
+use fb_base::MemShelf;
+use fbcc_core::Fault;
 use std::alloc::{AllocError, Global};
 use std::test::Fail;
+use test_calls::calls::{Answer, DOMAIN, REDUCED, call};
+use test_calls::documents::two_nodes;
 
 // ---- Grids: Belgium at the slack node, the Netherlands, and France.
 
@@ -445,11 +446,6 @@ fn shelf_of(
     Ok(shelf)
 }
 
-/// The documents of two nodes.
-pub fn two_nodes(alloc: Global) -> Result<MemShelf, AllocError> {
-    shelf_of(alloc, &[BE, NL], LINE, &BASE, TWO, KEYS_OF_TWO)
-}
-
 /// The documents of a triangle, one of whose elements is watched after the outage of a line.
 pub fn after_france(alloc: Global) -> Result<MemShelf, AllocError> {
     shelf_of(
@@ -537,72 +533,6 @@ fn reductions_lower_a_row(rt: HostRuntime) -> Result<(), AllocError> {
     Ok(())
 }
 
-/// A document that is put in the place of one of two nodes, and the status and the line that it is answered with.
-const REFUSALS: [(&str, &str, u8, &str); 9] = [
-    ("grid.uct", "", 5, "grid line 0: NoNodes\n"),
-    ("crac.json", "{", 6, "crac is not JSON\n"),
-    ("crac.json", "{}", 7, "crac type: Missing\n"),
-    ("crac.json", "[]", 7, "crac : WrongType\n"),
-    ("settings.json", "{}", 9, "settings moment: Missing\n"),
-    ("glsk.json", "x", 6, "glsk is not JSON\n"),
-    (
-        "glsk.json",
-        "{\"series\":[]}",
-        8,
-        "glsk zones[0]: NoSeries\n",
-    ),
-    (
-        "reductions.csv",
-        "element,direction,cva,iva\nc2,DIRECT,1,1\n",
-        10,
-        "reductions row 2: UnknownElement\n",
-    ),
-    (
-        "grid.uct",
-        "##N\n##ZBE\nBBE1AA1  BE1          0 0 380.00    0.00    0.00    0.00\n##ZNL\nNNL1AA1  NL1          0 0 380.00    0.00    0.00    0.00\n##L\nBBE1AA1  NNL1AA1  1 0 0.0000 14.440 0.000000   2000\n",
-        11,
-        "no slack node\n",
-    ),
-];
-
-#[test]
-fn each_document_is_refused(rt: HostRuntime) -> Result<(), AllocError> {
-    for (document, text, status, line) in &REFUSALS {
-        let mut shelf = two_nodes(rt.alloc())?;
-        shelf.add("reductions.csv", b"element,direction,cva,iva\n")?;
-        shelf.add(document, text.as_bytes())?;
-        let answer = call(&rt, &REDUCED, &mut shelf)?;
-        assert_eq!(rt; answer.outcome.status, *status);
-        assert_eq!(rt; answer.err.bytes(), line.as_bytes());
-        assert!(rt; answer.out.bytes().is_empty());
-    }
-    Ok(())
-}
-
-/// The documents in the order in which they are read, and the lines that `x` in their place is answered with.
-const ORDER: [(&str, &str); 5] = [
-    ("grid.uct", "grid line 1: UnknownBlock\n"),
-    ("crac.json", "crac is not JSON\n"),
-    ("settings.json", "settings is not JSON\n"),
-    ("glsk.json", "glsk is not JSON\n"),
-    ("reductions.csv", "reductions row 1: WrongType\n"),
-];
-
-#[test]
-fn earlier_documents_are_refused_first(rt: HostRuntime) -> Result<(), AllocError> {
-    for first in 0..5 {
-        let mut shelf = two_nodes(rt.alloc())?;
-        for place in first..5 {
-            let (name, _line) = ORDER[place];
-            shelf.add(name, b"x")?;
-        }
-        let answer = call(&rt, &REDUCED, &mut shelf)?;
-        let (_name, line) = ORDER[first];
-        assert_eq!(rt; answer.err.bytes(), line.as_bytes());
-    }
-    Ok(())
-}
-
 #[test]
 fn split_grids_are_refused(rt: HostRuntime) -> Result<(), AllocError> {
     let mut shelf = shelf_of(
@@ -653,91 +583,6 @@ fn numbers_past_range_are_refused(rt: HostRuntime) -> Result<(), AllocError> {
     let mut shelf = shelf_of(rt.alloc(), &[STRONG], "", &ON_STRONG, TWO, KEYS_OF_TWO)?;
     let answer = call(&rt, &DOMAIN, &mut shelf)?;
     assert_eq!(rt; answer.outcome.status, 0);
-    Ok(())
-}
-
-#[test]
-fn a_shelf_fails_at_each_fetch(rt: HostRuntime) -> Result<(), AllocError> {
-    let lines: [&str; 5] = [
-        "cannot read grid\n",
-        "cannot read crac\n",
-        "cannot read settings\n",
-        "cannot read glsk\n",
-        "cannot read reductions\n",
-    ];
-    for fetch in 0..5 {
-        let mut shelf = two_nodes(rt.alloc())?;
-        shelf.add("reductions.csv", b"element,direction,cva,iva\n")?;
-        shelf.fail_at(fetch as u64 + 1)?;
-        let answer = call(&rt, &REDUCED, &mut shelf)?;
-        assert_eq!(rt; answer.outcome.status, 3);
-        assert_eq!(rt; answer.err.bytes(), lines[fetch].as_bytes());
-        assert!(rt; answer.out.bytes().is_empty());
-    }
-    Ok(())
-}
-
-#[test]
-fn an_output_fails(rt: HostRuntime) -> Result<(), AllocError> {
-    let mut shelf = two_nodes(rt.alloc())?;
-    let mut out = MemSink::new(rt.alloc(), 10_000)?;
-    out.fail_at(1, 100)?;
-    let err = MemSink::new(rt.alloc(), 10_000)?;
-    let answer = call_into(&rt, &DOMAIN, &mut shelf, out, err)?;
-    assert_eq!(rt; answer.outcome.status, 15);
-    assert_eq!(rt; answer.out.bytes().len(), 100);
-    assert_eq!(rt; answer.err.bytes(), b"cannot write\n".as_slice());
-    Ok(())
-}
-
-/// A CRAC with 24 elements on the line between the two nodes.
-fn crac_of_many(alloc: Global) -> Result<String, AllocError> {
-    let mut crac = String::from_str(alloc, HEAD_OF_CRAC)?;
-    crac.push_str("\"contingencies\":[],\"flowCnecs\":[")?;
-    for number in 1..25_u32 {
-        if number > 1 {
-            crac.push_str(",")?;
-        }
-        write!(
-            crac,
-            "{{\"id\":\"c{number}\",\"networkElementId\":\"BBE1AA1  NNL1AA1  1\",\"instant\":\"preventive\",\"optimized\":true,\"thresholds\":[{{\"unit\":\"megawatt\",\"min\":-500,\"max\":500}}]}}"
-        )?;
-    }
-    crac.push_str("]}")?;
-    Ok(crac)
-}
-
-/// A table of more than 4,096 bytes is put in two pieces.
-#[test]
-fn a_later_piece_fails(rt: HostRuntime) -> Result<(), AllocError> {
-    let mut shelf = two_nodes(rt.alloc())?;
-    let crac = crac_of_many(rt.alloc())?;
-    shelf.add("crac.json", crac.as_bytes())?;
-    let whole = call(&rt, &DOMAIN, &mut shelf)?;
-    assert_eq!(rt; whole.outcome.status, 0);
-    let mut out = MemSink::new(rt.alloc(), 10_000)?;
-    out.fail_at(2, 100)?;
-    let err = MemSink::new(rt.alloc(), 10_000)?;
-    let answer = call_into(&rt, &DOMAIN, &mut shelf, out, err)?;
-    assert_eq!(rt; answer.outcome.status, 15);
-    assert_eq!(rt; answer.out.bytes().len(), 4_196);
-    assert!(rt; whole.out.bytes().starts_with(answer.out.bytes()));
-    assert_eq!(rt; answer.err.bytes(), b"cannot write\n".as_slice());
-    Ok(())
-}
-
-/// The fetch of one document more than the words name would fail.
-#[test]
-fn no_other_document_is_fetched(rt: HostRuntime) -> Result<(), AllocError> {
-    let calls: [&[&str]; 3] = [&["net", "--grid", "grid.uct"], &DOMAIN, &REDUCED];
-    let one_more: [u64; 3] = [2, 5, 6];
-    for place in 0..3 {
-        let mut shelf = two_nodes(rt.alloc())?;
-        shelf.add("reductions.csv", b"element,direction,cva,iva\n")?;
-        shelf.fail_at(one_more[place])?;
-        let answer = call(&rt, calls[place], &mut shelf)?;
-        assert_eq!(rt; answer.outcome.status, 0);
-    }
     Ok(())
 }
 

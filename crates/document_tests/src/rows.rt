@@ -1,10 +1,10 @@
 //! The command `rows`: documents, words, and an outside that fails.
 
-use crate::calls::{Answer, call, call_into, judge};
 use fb_base::{MemShelf, MemSink};
 use fbcc_core::{Document, Fault, Reason};
 use std::alloc::{AllocError, Global};
 use std::test::Fail;
+use test_calls::calls::{Answer, call, call_into, judge};
 
 /// A document whose target follows by a watt: both sides of the condition are 10^23.
 const EXAMPLE: [&str; 6] = [

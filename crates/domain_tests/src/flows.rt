@@ -1,9 +1,9 @@
 //! Margins and phase shifts by the command `domain`, worked out by hand.
 
-use crate::calls::{Answer, DOMAIN, REDUCED, call};
 use fb_base::MemShelf;
 use std::alloc::{AllocError, Global};
 use std::thread::Threads;
+use test_calls::calls::{Answer, DOMAIN, REDUCED, call};
 
 /// The reactance of a transformer and of a line beside it, the regulation of the transformer in columns 41 to 68, and
 /// the right sides and the gap of the transformer in both directions. At 0.1444 ohm, 10^9 kW/rad, a shift of 10^-12 rad

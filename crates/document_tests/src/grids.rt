@@ -1,9 +1,9 @@
 //! Grid documents by the command `net`: the first fault of each, and what is read of bytes, columns and numbers.
 
-use crate::calls::{Answer, call};
 use fb_base::MemShelf;
 use std::alloc::{AllocError, Global};
 use std::thread::Threads;
+use test_calls::calls::{Answer, call};
 
 const NODES: &str =
     "##N\n##ZBE\nBBE1AA1  x            0 3 380.00    0.00    0.00    0.00\n##ZNL\nNNL1AA1  x            0 0 380.00    0.00    0.00    0.00\n";

@@ -1,8 +1,8 @@
-//! The command `check`: certificates of two nodes with one change each, and certificates that `certify` printed.
+//! The command `check`: certificates of two nodes with one change each.
 
-use crate::calls::{CERTIFY, CHECK, call};
-use crate::domain::{after_france, two_nodes};
 use std::alloc::{AllocError, Global};
+use test_calls::calls::{CHECK, call};
+use test_calls::documents::two_nodes;
 
 /// The certificate of two nodes, record by record: version, state, barrier, three columns, two rows, and the end.
 const RECORDS: [&str; 9] = [
@@ -111,7 +111,9 @@ fn certificates_are_judged(rt: HostRuntime) -> Result<(), AllocError> {
         let mut shelf = two_nodes(rt.alloc())?;
         shelf.add("certificate.csv", text.as_bytes())?;
         let answer = call(&rt, &CHECK, &mut shelf)?;
+        let status = if verdict == "yes\n" { 0 } else { 1 };
         assert_eq!(rt; answer.out.bytes(), verdict.as_bytes(), "{change}");
+        assert_eq!(rt; answer.outcome.status, status, "{change}");
     }
     Ok(())
 }
@@ -126,18 +128,7 @@ fn records_that_are_none_are_refused(rt: HostRuntime) -> Result<(), AllocError> 
         let line = format!(in rt.alloc(); "certificate row {record} cannot be read\n")?;
         assert_eq!(rt; answer.outcome.status, 14);
         assert_eq!(rt; answer.err.bytes(), line.as_bytes(), "{change}");
+        assert!(rt; answer.out.bytes().is_empty());
     }
-    Ok(())
-}
-
-/// What `certify` prints of a grid with an outage is accepted, and is not where the id of the outage is another.
-#[test]
-fn printed_certificates_are_accepted(rt: HostRuntime) -> Result<(), AllocError> {
-    let mut shelf = after_france(rt.alloc())?;
-    let printed = call(&rt, &CERTIFY, &mut shelf)?;
-    shelf.add("certificate.csv", printed.out.bytes())?;
-    let answer = call(&rt, &CHECK, &mut shelf)?;
-    assert_eq!(rt; answer.outcome.status, 0);
-    assert_eq!(rt; answer.out.bytes(), b"yes\n".as_slice());
     Ok(())
 }

@@ -1,12 +1,12 @@
 //! Workers: two of them work at the same time, and any number gives the same bytes.
 
-use crate::calls::{CERTIFY, CHECK, call, call_at, call_into};
 use crate::domain::after_france;
 use case_maker::{Case, make_case};
 use fan_out::Gate;
 use fb_base::{MemShelf, MemSink};
 use std::alloc::{AllocError, Global};
 use std::sync::atomic::{AtomicBool, Ordering};
+use test_calls::calls::{CERTIFY, CHECK, call, call_at, call_into};
 
 /// How often a worker looks whether the other one has begun.
 const MOST_LOOKS: u32 = 200_000_000;

@@ -1,10 +1,10 @@
 //! The command `net`: grids, words, and an outside that fails.
 
-use crate::calls::{Answer, call, call_into};
 use fb_base::{MemShelf, MemSink};
 use fbcc_core::{Document, Fault};
 use std::alloc::{AllocError, Global};
 use std::test::Fail;
+use test_calls::calls::{Answer, call, call_into};
 
 /// A file of two blocks of nodes and one line, in three parts: up to the nodes of NL, these nodes, and the rest.
 const HEAD: &str =

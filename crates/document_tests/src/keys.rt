@@ -1,9 +1,9 @@
 //! GLSK documents by the command `domain`: the first fault of each, and the coefficients that keys make.
 
-use crate::calls::{Answer, DOMAIN, call};
 use fb_base::MemShelf;
 use std::alloc::{AllocError, Global};
 use std::thread::Threads;
+use test_calls::calls::{Answer, DOMAIN, call};
 
 /// A line from each node to the Dutch one. The first Belgian node has 10 W of load and 30 W produced, the second 5 W of
 /// load and a pump of 20 W.
