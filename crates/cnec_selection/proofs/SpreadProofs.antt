@@ -1,5 +1,6 @@
 -- The span of the spread holds the spread, and a class is right.
-use Rattle.std.proofs.Common.{◌≡◌, ◌<◌, ℕ, ℤ, pos, ◌-ℤ◌, ◌≤ℤ◌, ◌<ℤ◌, List, [], ◌∷◌, length, map, refl, sym, subst, subst₂, arith}
+use Rattle.std.proofs.Common.{◌≡◌, ◌<◌, ℕ, ◌+◌, ℤ, pos, neg_ℤ, ◌-ℤ◌, ◌≤ℤ◌, ◌<ℤ◌, List, [], ◌∷◌, length, map, refl, sym, subst, subst₂, arith}
+use Rattle.std.specs.Prelude.{Option, None}
 use Rattle.std.specs.Int.{int_max, int_min}
 use Rattle.std.specs.List.{All, fold}
 use Rattle.std.proofs.lemmas.Int.{clamps, fold-int_max_bounds, fold-int_min_bounds}
@@ -13,9 +14,11 @@ use Rattle.fractions.specs.GreatestLaws.{Lies-greatest, Lies-least}
 use Rattle.fractions.specs.Spans.{Lies, LiesAt, EachLiesAt, low_end, high_end}
 use Rattle.fractions.specs.SpanLaws.{Lies-Same, Lies_wider, Lies-minus, Lies-meet}
 use Rattle.fb_span.specs.Ends.{EndsWithin}
+use Rattle.fb_span.specs.Exact.{IsFrom}
 use Rattle.security.specs.Spreads.{spread_of, IsSelected}
 use Rattle.security.proofs.SpreadLaws.{spread_not_negative, times-threshold}
 use Rattle.cnec_selection.specs.SpreadSpans.{trillion, greatest_whole, least_whole, spread_low, spread_high, HoldsSpread}
+use Rattle.cnec_selection.specs.FittingSpreads.{SpreadFits, IsSpread}
 use Rattle.cnec_selection.specs.Classes.{level_of}
 
 -- ---- the greatest and the least of numbers from -m to m are such numbers
@@ -40,19 +43,6 @@ greatest_within m f (s ∷ ss) h = fold_max_within m (f s) (map f ss) (All-head 
 least_within : (m : ℕ) (f : ℤ × ℤ → ℤ) (spans : List (ℤ × ℤ)) → All (λ s. IsWithin m (f s)) spans → IsWithin m (least_whole (map f spans))
 least_within m f [] h = record { low = omega (arith, linear); high = omega (arith, linear) }
 least_within m f (s ∷ ss) h = fold_min_within m (f s) (map f ss) (All-head (λ y. IsWithin m (f y)) s ss h) (All-map (IsWithin m) f ss (All-tail (λ y. IsWithin m (f y)) s ss h))
-
--- the greatest ends and the least ends of spans whose ends are from -m to m
-pub greatest_ends_within : (m : ℕ) (spans : List (ℤ × ℤ)) (s : ℤ × ℤ) → All (EndsWithin m) spans → s.0 ≡ greatest_whole (map low_end spans) → s.1 ≡ greatest_whole (map high_end spans) → EndsWithin m s
-greatest_ends_within m spans s h e f = record {
-  low = subst (IsWithin m) (sym e) (greatest_within m low_end spans (λ k d l. (h k d l).low));
-  high = subst (IsWithin m) (sym f) (greatest_within m high_end spans (λ k d l. (h k d l).high));
-}
-
-pub least_ends_within : (m : ℕ) (spans : List (ℤ × ℤ)) (s : ℤ × ℤ) → All (EndsWithin m) spans → s.0 ≡ least_whole (map low_end spans) → s.1 ≡ least_whole (map high_end spans) → EndsWithin m s
-least_ends_within m spans s h e f = record {
-  low = subst (IsWithin m) (sym e) (least_within m low_end spans (λ k d l. (h k d l).low));
-  high = subst (IsWithin m) (sym f) (least_within m high_end spans (λ k d l. (h k d l).high));
-}
 
 -- the least is at most the greatest
 pub least-greatest : (zs : List ℤ) → least_whole zs ≤ℤ greatest_whole zs
@@ -86,6 +76,33 @@ spread_held spans spread n e f = λ factors h. subst₂ (λ (x y : ℤ). Lies (t
 pub spread_ordered : (spans : List (ℤ × ℤ)) (greatest least : ℤ × ℤ) (low high : ℤ) → greatest.0 ≤ℤ greatest.1 → least.0 ≤ℤ least.1 → greatest.0 ≡ greatest_whole (map low_end spans) → least.0 ≡ least_whole (map low_end spans)
     → low ≡ int_max (greatest.0 -ℤ least.1) (pos 0) → high ≡ greatest.1 -ℤ least.0 → low ≤ℤ high
 spread_ordered spans greatest least low high g l eg el e f = let o = least-greatest (map low_end spans) in omega (arith, linear, clamps, g, l, eg, el, e, f, o)
+
+-- ---- what fits a type
+pub spread_from_zero : (low high : ℤ) (spans : List (ℤ × ℤ)) (greatest least : ℤ × ℤ) → greatest.0 ≤ℤ greatest.1 → least.0 ≤ℤ least.1 → greatest.0 ≡ greatest_whole (map low_end spans) → least.0 ≡ least_whole (map low_end spans)
+    → IsFrom low high (greatest.0 -ℤ least.1) → IsFrom low high (greatest.1 -ℤ least.0) → IsFrom low high (int_max (greatest.0 -ℤ least.1) (pos 0))
+spread_from_zero low high spans greatest least g l eg el h k =
+    let o = spread_ordered spans greatest least _ _ g l eg el refl refl in
+    record { above = omega (arith, linear, clamps, h.above); below = omega (arith, linear, k.below, o) }
+
+pub no_spread : {T : Type 0} (whole : T → ℤ) (low high : ℤ) (factors : List (ℤ × ℤ)) (r : Option (T × T)) → r ≡ None → (SpreadFits low high factors → ⊥) → IsSpread whole low high r factors
+no_spread whole low high factors r e n = subst (λ o. IsSpread whole low high o factors) (sym e) n
+
+from_within : (m : ℕ) (low high z : ℤ) → low ≤ℤ neg_ℤ (pos m) → pos m ≤ℤ high → IsWithin m z → IsFrom low high z
+from_within m low high z l h w = record { above = omega (arith, linear, l, w.low); below = omega (arith, linear, h, w.high) }
+
+difference_fits : (m : ℕ) (low high a b : ℤ) → low ≤ℤ neg_ℤ (pos (m + m)) → pos (m + m) ≤ℤ high → IsWithin m a → IsWithin m b → IsFrom low high (a -ℤ b)
+difference_fits m low high a b l h v w = record { above = omega (arith, linear, l, v.low, w.high); below = omega (arith, linear, h, v.high, w.low) }
+
+-- numbers up to twice the ends are enough
+pub spread_fits : (m : ℕ) (low high : ℤ) (spans : List (ℤ × ℤ)) → low ≤ℤ neg_ℤ (pos (m + m)) → pos (m + m) ≤ℤ high → All (EndsWithin m) spans → SpreadFits low high spans
+spread_fits m low high spans l h each = record {
+  ends = λ k d lt. record {
+    low = from_within m low high _ (omega (arith, linear, l)) (omega (arith, linear, h)) (each k d lt).low;
+    high = from_within m low high _ (omega (arith, linear, l)) (omega (arith, linear, h)) (each k d lt).high;
+  };
+  inner = difference_fits m low high _ _ l h (greatest_within m low_end spans (λ k d lt. (each k d lt).low)) (least_within m high_end spans (λ k d lt. (each k d lt).high));
+  outer = difference_fits m low high _ _ l h (greatest_within m high_end spans (λ k d lt. (each k d lt).high)) (least_within m low_end spans (λ k d lt. (each k d lt).low));
+}
 
 -- ---- the class
 pub below_right : (span : ℤ × ℤ) (t : ℕ) → span.1 <ℤ level_of t → (spread : Fraction) → LiesAt trillion span spread → IsSelected (pos t) spread → ⊥

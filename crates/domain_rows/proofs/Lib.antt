@@ -1,4 +1,5 @@
 pub mod Corners
 pub mod Loops
 pub mod Sizes
+pub mod Reaches
 pub mod Inclusions

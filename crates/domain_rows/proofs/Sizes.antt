@@ -1,5 +1,8 @@
 -- How large deviations and right sides are.
-use Rattle.std.proofs.Common.{◌≡◌, ℕ, ◌+◌, ◌*◌, ◌≤◌, ℤ, pos, negsuc, ◌<ℤ◌, ◌+ℤ◌, ◌-ℤ◌, ◌*ℤ◌, sym, subst, arith}
+use Rattle.std.proofs.Common.{◌≡◌, ℕ, ◌+◌, ◌<◌, ◌≤◌, List, length, take, get_or, max, ℤ, pos, negsuc, ◌<ℤ◌, ◌+ℤ◌, ◌-ℤ◌, ◌*ℤ◌, sym, subst, arith}
+use Rattle.std.specs.Prelude.{unsigned_abs}
+use Rattle.std.specs.List.{All}
+use Rattle.std.proofs.lemmas.List.Elements.{All-more, All-weaker}
 use Rattle.whole_laws.specs.Ring.{linear}
 use Rattle.whole_laws.specs.Sums.{IsWithin}
 use Rattle.whole_laws.specs.Quotients.{floor_of, ceil_of}
@@ -41,16 +44,34 @@ sides_within ram deviation s e f h k = record {
   high = subst (IsWithin 20_000_000_000_000) (sym f) (ceil_within ram.1 deviation.0 h.high k.low);
 }
 
--- one zone more
-pub more_within : (i : ℕ) (x y : ℤ × ℤ) → EndsWithin (i * 200_000_000_000_000_000_000_000) x → EndsWithin 200_000_000_000_000_000_000_000 y
-    → EndsWithin ((i + 1) * 200_000_000_000_000_000_000_000) (x.0 +ℤ y.0, x.1 +ℤ y.1)
-more_within i x y h k = record {
-  low = record { low = omega (arith, linear, h.low.low, k.low.low); high = omega (arith, linear, h.low.high, k.low.high) };
-  high = record { low = omega (arith, linear, h.high.low, k.high.low); high = omega (arith, linear, h.high.high, k.high.high) };
-}
+-- ---- the sizes of ends
+abs_within : (z : ℤ) → IsWithin (unsigned_abs z) z
+abs_within (pos n) = record { low = omega (arith, linear); high = omega (arith, linear) }
+abs_within (negsuc n) = record { low = omega (arith, linear); high = omega (arith, linear) }
 
-pub all_within : (i : ℕ) (x : ℤ × ℤ) → i ≤ 64 → EndsWithin (i * 200_000_000_000_000_000_000_000) x → EndsWithin 12_800_000_000_000_000_000_000_000 x
-all_within i x le h = record {
-  low = record { low = omega (arith, linear, h.low.low); high = omega (arith, linear, h.low.high) };
-  high = record { low = omega (arith, linear, h.high.low); high = omega (arith, linear, h.high.high) };
-}
+abs_least : (m : ℕ) (z : ℤ) → IsWithin m z → unsigned_abs z ≤ m
+abs_least m (pos n) h = omega (arith, linear, h.low, h.high)
+abs_least m (negsuc n) h = omega (arith, linear, h.low, h.high)
+
+wider : (m n : ℕ) (z : ℤ) → m ≤ n → IsWithin m z → IsWithin n z
+wider m n z l h = record { low = omega (arith, linear, h.low); high = omega (arith, linear, h.high) }
+
+pub larger : (m n : ℕ) (s : ℤ × ℤ) → m ≤ n → EndsWithin m s → EndsWithin n s
+larger m n s l h = record { low = wider m n s.0 l h.low; high = wider m n s.1 l h.high }
+
+pub size_within : (s : ℤ × ℤ) (n : ℕ) → n ≡ max (unsigned_abs s.0) (unsigned_abs s.1) → EndsWithin n s
+size_within s n e = record { low = wider (unsigned_abs s.0) n s.0 (omega arith) (abs_within s.0); high = wider (unsigned_abs s.1) n s.1 (omega arith) (abs_within s.1) }
+
+pub size_least : (s : ℤ × ℤ) (n m : ℕ) → n ≡ max (unsigned_abs s.0) (unsigned_abs s.1) → EndsWithin m s → n ≤ m
+size_least s n m e h = let p = abs_least m s.0 h.low in let q = abs_least m s.1 h.high in omega arith
+
+-- one span more
+pub sized_more : {X : Type 0} (f : X → ℤ × ℤ) (xs : List X) (i : ℕ) (d x : X) (n m after : ℕ) → i < length xs → get_or xs i d ≡ x → All (λ y. EndsWithin n (f y)) (take i xs) → EndsWithin m (f x) → after ≡ max n m
+    → All (λ y. EndsWithin after (f y)) (take (i + 1) xs)
+sized_more f xs i d x n m after l e h k is =
+    All-more (λ y. EndsWithin after (f y)) xs i d l
+    (All-weaker (λ y. EndsWithin n (f y)) (λ y. EndsWithin after (f y)) (λ y. larger n after (f y) (omega arith)) (take i xs) h)
+    (subst (λ y. EndsWithin after (f y)) (sym e) (larger m after (f x) (omega arith) k))
+
+pub greater_small : (n m after bound : ℕ) → after ≡ max n m → n ≤ bound → m ≤ bound → after ≤ bound
+greater_small n m after bound e p q = omega arith

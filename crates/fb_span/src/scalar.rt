@@ -48,6 +48,14 @@ pub trait Scalar: Copy + Ord {
     fn is_positive(self) -> bool
         ensures { IsTrue result ↔ (pos 0 <ℤ whole self) };
 
+    /// The same number, or none exactly where it is below `LOW` or above `HIGH`.
+    fn from_wide(value: i128) -> Option<Self>
+        ensures { IsExactly whole (whole LOW) (whole HIGH) result value };
+
+    /// The same number in 128 bits.
+    fn wide(self) -> i128
+        ensures { result ≡ whole self };
+
     /// The order is that of the whole numbers.
     ghost ordered: { (a b : Self) → Self.cmp a b ≡ int_cmp (whole a) (whole b) };
 
@@ -98,6 +106,14 @@ impl Scalar for i64 {
     fn is_positive(self) -> bool {
         0 < self
     }
+
+    fn from_wide(value: i128) -> Option<i64> {
+        i64::try_from(value).ok()
+    }
+
+    fn wide(self) -> i128 {
+        i128::from(self)
+    }
 }
 
 impl Scalar for i128 {
@@ -137,5 +153,13 @@ impl Scalar for i128 {
 
     fn is_positive(self) -> bool {
         0 < self
+    }
+
+    fn from_wide(value: i128) -> Option<i128> {
+        Some(value)
+    }
+
+    fn wide(self) -> i128 {
+        self
     }
 }

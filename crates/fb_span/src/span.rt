@@ -125,6 +125,24 @@ impl<T: Scalar> Span<T> {
         let _ = &self.low;
     }
 
+    /// The same span in the bits of `T`, or none exactly where an end is past `T`.
+    pub fn from_wide(span: Span<i128>) -> Option<Span<T>>
+        ensures { IsExactSpan T.whole (T.whole T.LOW) (T.whole T.HIGH) result span.0 span.1 }
+    {
+        span.sound();
+        let low = T::from_wide(span.low())?;
+        let high = T::from_wide(span.high())?;
+        Some(Span::between(low, high))
+    }
+
+    /// The same span in 128 bits.
+    pub fn wide(self) -> Span<i128>
+        ensures { result ≡ ends_of T.whole self }
+    {
+        self.sound();
+        Span::between(self.low.wide(), self.high.wide())
+    }
+
     /// The least span that holds all sums, or none exactly where an end is past `T`.
     pub fn add(self, other: Span<T>) -> Option<Span<T>>
         ensures exact { IsExactSpan T.whole (T.whole T.LOW) (T.whole T.HIGH) result

@@ -1,5 +1,6 @@
 pub mod Scaled
 pub mod Supplies
 pub mod Held
-pub mod Weights
 pub mod Zones
+pub mod Fits
+pub mod ZoneParts

@@ -1,15 +1,14 @@
 -- The span of a zone, block by block, and that it holds the exact factor.
-use Rattle.std.proofs.Common.{◌≡◌, ℕ, zero, suc, ◌+◌, ◌<◌, ◌≤◌, Bool, true, false, cond, List, [], ◌∷◌, length, take, drop, get_or, All, ℤ, pos, negsuc, ◌+ℤ◌, ◌-ℤ◌, ◌*ℤ◌, ◌≤ℤ◌, ◌<ℤ◌, refl, sym, ap, ap₂, ◌∙◌, arith, add-one, take_all, true≢false, length-take, length-drop}
+use Rattle.std.proofs.Common.{◌≡◌, ℕ, zero, suc, ◌+◌, ◌<◌, ◌≤◌, Bool, true, false, cond, List, [], ◌∷◌, length, take, drop, get_or, All, ℤ, pos, negsuc, ◌+ℤ◌, ◌-ℤ◌, ◌*ℤ◌, ◌≤ℤ◌, ◌<ℤ◌, refl, sym, ap, ◌∙◌, arith, true≢false, length-take, length-drop}
 use Rattle.std.specs.Prelude.{◌==◌}
 use Rattle.std.specs.List.{AllZip, zip}
 use Rattle.std.proofs.lemmas.Bool.{ne_eqb}
 use Rattle.std.proofs.lemmas.Int.{ints}
 use Rattle.std.proofs.lemmas.List.Elements.{All-head, All-tail, All-cons, All-nil}
-use Rattle.whole_laws.specs.Ring.{ring, linear, scale-≤, +ℤ_assoc}
+use Rattle.whole_laws.specs.Ring.{ring, linear}
 use Rattle.whole_laws.specs.Quotients.{floor_of, ceil_of}
 use Rattle.whole_laws.specs.QuotientLaws.{floor-low, floor-gap, ceil-high, ceil-gap}
 use Rattle.whole_laws.specs.Sums.{IsWithin, sum_over, at}
-use Rattle.whole_laws.specs.SumLaws.{sum_over-take, sum_over-more}
 use Rattle.fractions.specs.Fractions.{Fraction, Same, whole, times, total}
 use Rattle.fractions.specs.FractionLaws.{Same_refl, Same_sym, Same_trans, Same-times}
 use Rattle.fractions.specs.TotalLaws.{Same-total, total-times, total-over, total-zero}
@@ -27,9 +26,8 @@ use Rattle.security.specs.Quotients.{divisor_of, divisor-positive, divided}
 use Rattle.security.specs.Balances.{block_weights, block_side}
 use Rattle.security.specs.Flows.{ExactAngles, AreAnglesOf, NumberedBranch, flow_of, factor_of, AreAnglesOfKey}
 use Rattle.branch_spans.specs.FlowSpans.{IsBranchOf}
-use Rattle.zonal_factors.specs.FactorSpans.{trillion, share_span_of, zone_span_of, IsBlock, IsKey, EnclosesKey, SharedWithin}
+use Rattle.zonal_factors.specs.FactorSpans.{trillion, share_span_of, zone_span_of, IsBlock, EnclosesKey}
 use Rattle.zonal_factors.proofs.Held.{part_of, block_held}
-use Rattle.zonal_factors.proofs.Weights.{share_within}
 
 -- ---- lists side by side
 
@@ -45,56 +43,7 @@ zip_length R [] (y ∷ ys) h = absurd h
 zip_length R (x ∷ xs) [] h = absurd h
 zip_length R (x ∷ xs) (y ∷ ys) h = ap suc (zip_length R xs ys h.1)
 
-sum_suc : {X Y : Type 0} (f : X × Y → ℤ) (xs : List X) (ys : List Y) (i : ℕ) (x : X) (y : Y) → i < length xs → i < length ys
-    → sum_over f (zip (take (suc i) xs) (take (suc i) ys)) ≡ sum_over f (zip (take i xs) (take i ys)) +ℤ f (get_or xs i x, get_or ys i y)
-sum_suc f [] ys i x y p q = absurd (omega arith)
-sum_suc f (a ∷ xs) [] i x y p q = absurd (omega arith)
-sum_suc f (a ∷ xs) (b ∷ ys) zero x y p q = omega (arith, linear)
-sum_suc f (a ∷ xs) (b ∷ ys) (suc i) x y p q =
-    ap (λ v. f (a, b) +ℤ v) (sum_suc f xs ys i x y (omega arith) (omega arith)) ∙ sym (+ℤ_assoc (f (a, b)) (sum_over f (zip (take i xs) (take i ys))) (f (get_or xs i x, get_or ys i y)))
-
-pub sum_more : {X Y : Type 0} (f : X × Y → ℤ) (xs : List X) (ys : List Y) (i : ℕ) (x : X) (y : Y) (so_far here after : ℤ) → i < length xs → i < length ys
-    → so_far ≡ sum_over f (zip (take i xs) (take i ys)) → here ≡ f (get_or xs i x, get_or ys i y) → after ≡ so_far +ℤ here → after ≡ sum_over f (zip (take (i + 1) xs) (take (i + 1) ys))
-sum_more f xs ys i x y so_far here after p q e g h = h ∙ ap₂ (λ u v. u +ℤ v) e g ∙ sym (rw add-one (sum_suc f xs ys i x y p q))
-
-pub sum_all : {X Y : Type 0} (f : X × Y → ℤ) (xs : List X) (ys : List Y) (i : ℕ) (so_far : ℤ) → length xs ≤ i → length ys ≤ i → so_far ≡ sum_over f (zip (take i xs) (take i ys)) → so_far ≡ sum_over f (zip xs ys)
-sum_all f xs ys i so_far p q h = h ∙ ap₂ (λ u v. sum_over f (zip u v)) (take_all i xs p) (take_all i ys q)
-
--- ---- shares
-
-pub share_at : (bs : List Block) (i : ℕ) (d : Block) → All IsBlock bs → i < length bs → (pos 0 ≤ℤ (get_or bs i d).share) × ((get_or bs i d).share ≤ℤ sum_over (λ b. b.share) bs)
-share_at [] i d h l = absurd (omega arith)
-share_at (b ∷ bs) zero d h l =
-    let first = (All-head IsBlock b bs h).share in
-    let rest = nonnegative bs (All-tail IsBlock b bs h) in
-    (first, omega (arith, linear, first, rest))
-  where
-    nonnegative : (cs : List Block) → All IsBlock cs → pos 0 ≤ℤ sum_over (λ c. c.share) cs
-    nonnegative [] h = omega (arith, linear)
-    nonnegative (c ∷ cs) h = let one = (All-head IsBlock c cs h).share in let more = nonnegative cs (All-tail IsBlock c cs h) in omega (arith, linear, one, more)
-share_at (b ∷ bs) (suc i) d h l =
-    let first = (All-head IsBlock b bs h).share in
-    let rest = share_at bs i d (All-tail IsBlock b bs h) (omega arith) in
-    (rest.0, let le = rest.1 in omega (arith, linear, first, le))
-
-pub shares_taken : (bs : List Block) (i : ℕ) → All IsBlock bs → sum_over (λ b. b.share) (take i bs) ≤ℤ sum_over (λ b. b.share) bs
-shares_taken bs i h = sum_over-take (λ b. b.share) bs i (λ k d l. (h k d l).share)
-
-pub shared_one : (share x : ℤ) → pos 0 ≤ℤ share → IsWithin 1_000_000_000_000 x → SharedWithin share (share *ℤ x)
-shared_one share x some w = let one = share_within share x some w in record { low = one.0; high = one.1 }
-
-pub shared_more : (shares share all z x sum : ℤ) → SharedWithin shares z → SharedWithin share x → all ≡ shares +ℤ share → sum ≡ z +ℤ x → SharedWithin all sum
-shared_more shares share all z x sum h k ea es =
-    let e : trillion *ℤ (shares +ℤ share) ≡ trillion *ℤ shares +ℤ trillion *ℤ share = both trillion in
-    rw (ea, es) (record { low = omega (arith, linear, h.low, k.low, e); high = omega (arith, linear, h.high, k.high, e) })
-  where
-    both : (t : ℤ) → t *ℤ (shares +ℤ share) ≡ t *ℤ shares +ℤ t *ℤ share
-    both t = simp ring
-
-pub shared_within : (shares z : ℤ) → shares ≤ℤ pos 100_000_000 → SharedWithin shares z → IsWithin 100_000_000_000_000_000_000 z
-shared_within shares z small h =
-    let most = scale-≤ trillion shares (pos 100_000_000) (omega (arith, linear)) small in
-    record { low = omega (arith, linear, most, h.low); high = omega (arith, linear, most, h.high) }
+-- ---- a sum over 10^8
 
 quotient_within : (q z : ℤ) → (q *ℤ pos 100_000_000) <ℤ (z +ℤ pos 100_000_000) → (z -ℤ pos 100_000_000) <ℤ (q *ℤ pos 100_000_000) → IsWithin 100_000_000_000_000_000_000 z → IsWithin 1_000_000_000_000 q
 quotient_within (pos n) z l g h = record { low = omega (arith, linear); high = omega (arith, linear, l, g, h.low, h.high) }
@@ -163,14 +112,6 @@ zone_held grid s c sound of stands carries v barrier column as' blocks enc es so
     (total-over (divisor_of (pos 100_000_000)) h (λ (z : Block × ExactAngles). times z.0.share (times trillion (part_of s c z.0 z.1))) zs))))
     (Lies-over _ _ (pos 100_000_000) h lies)
 
--- ---- the loop over the blocks
-
-pub next_within : (bs : List Block) (i : ℕ) (d : Block) (z x sum : ℤ) → i < length bs → d ≡ get_or bs i d → SharedWithin (sum_over (λ b. b.share) (take i bs)) z → SharedWithin d.share x → sum ≡ z +ℤ x
-    → SharedWithin (sum_over (λ b. b.share) (take (i + 1) bs)) sum
-next_within bs i d z x sum l e h k es =
-    shared_more (sum_over (λ b. b.share) (take i bs)) d.share (sum_over (λ b. b.share) (take (i + 1) bs)) z x sum h k
-    (sum_over-more (λ (b : Block). b.share) bs i d l ∙ ap (λ (b : Block). sum_over (λ c. c.share) (take i bs) +ℤ b.share) (sym e)) es
-
 -- ---- factors that are 0
 
 total_of_zeros : {A : Type 0} (f : A → Fraction) (xs : List A) → ((x : A) → Same (f x) (whole (pos 0))) → Same (total f xs) (whole (pos 0))
@@ -213,6 +154,3 @@ some_blocks (suc n) m e h = omega arith
 pub none_blocks : (n m : ℕ) → n ≡ m → true ≡ (n == 0) → m ≡ 0
 none_blocks zero m e h = sym e
 none_blocks (suc n) m e h = absurd (true≢false (h ∙ ne_eqb (suc n) 0 (λ same. absurd (omega arith))))
-
-pub few_shares : (column : Column) → IsKey column → 0 < length column.blocks → sum_over (λ b. b.share) column.blocks ≤ℤ pos 100_000_000
-few_shares column h some = let e = h.shares some in omega (arith, linear, e)

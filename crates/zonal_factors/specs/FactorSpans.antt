@@ -68,8 +68,3 @@ EnclosesKey s column angles first = AllZip (λ block a. EnclosesColumn s (block_
 -- the span holds the exact factor, however its exact angles are written
 abbrev pub HoldsFactor : GridState → NumberedBranch → Column → ℤ × ℤ → Type 0
 HoldsFactor s c column span = (es : List ExactAngles) → AreAnglesOfKey s column es → LiesAt trillion span (factor_of s c column es)
-
--- a number within 10^12 times a share, or a sum of shares
-pub record SharedWithin (share z : ℤ) : Type 0 where
-  pub low : neg_ℤ (trillion *ℤ share) ≤ℤ z
-  pub high : z ≤ℤ (trillion *ℤ share)

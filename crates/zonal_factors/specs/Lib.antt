@@ -1,1 +1,2 @@
 pub mod FactorSpans
+pub mod SharedSpans

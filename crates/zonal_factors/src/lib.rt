@@ -1,7 +1,14 @@
 //! Zonal factors: how much of a megawatt that a zone exports flows over a branch, as spans that hold the exact factor.
 #![tactic(auto)]
 
-ghost use Rattle.std.specs.Prelude.{◌≡◌, ◌+◌, ◌^◌, ◌*◌, ◌<◌, ◌≤◌, ℤ, pos, true, neg_ℤ, ◌-ℤ◌, ◌+ℤ◌, ◌*ℤ◌, ◌≤ℤ◌, length, All};
+mod shares;
+
+pub use shares::shared;
+
+#[cfg(test)]
+mod tests;
+
+ghost use Rattle.std.specs.Prelude.{◌≡◌, ◌+◌, ◌^◌, ◌*◌, ◌<◌, ◌≤◌, ℤ, pos, true, neg_ℤ, ◌-ℤ◌, ◌+ℤ◌, ◌*ℤ◌, ◌≤ℤ◌, length, All, IfSome, IsSome};
 ghost use Rattle.std.specs.Int.{int_max, int_min};
 ghost use Rattle.std.specs.List.{AllZip, zip};
 ghost use Rattle.whole_laws.specs.Quotients.{floor_of, ceil_of};
@@ -12,18 +19,17 @@ ghost use Rattle.grid_laplacian.specs.Ranges.{IsOfGrid, IsInRange};
 ghost use Rattle.grid_laplacian.specs.Enclosures.{IsBarrier, EnclosesColumn};
 ghost use Rattle.security.specs.Balances.{block_side};
 ghost use Rattle.branch_spans.specs.FlowSpans.{ForBranch};
-ghost use Rattle.zonal_factors.specs.FactorSpans.{trillion, block_span_of, share_span_of, zone_span_of, factor_span_of, IsBlock, IsKey, EnclosesKey, HoldsFactor, SharedWithin};
+ghost use Rattle.zonal_factors.specs.FactorSpans.{trillion, block_span_of, zone_span_of, factor_span_of, IsBlock, IsKey, EnclosesKey, HoldsFactor};
+ghost use Rattle.zonal_factors.specs.SharedSpans.{parts_of, IsShared};
 
+use crate::shares::WeightedSum;
 use branch_spans::flow_span;
-use fb_span::Span;
+use fb_span::{Scalar, Span};
 use fb_types::{Angles, Block, Column, Grid, Items};
 use grid_state::State;
 
 /// The number of 10^-12 in one.
 const TRILLION: i128 = 1_000_000_000_000;
-
-/// The number of 10^-8 in one.
-const SHARES: i128 = 100_000_000;
 
 /// The flow over ten times the total, rounded outwards.
 fn quotient(flow: Span<i128>, total: i64) -> Span<i128>
@@ -70,55 +76,86 @@ fn block_span(
     clipped(quotient(flow, block.total))
 }
 
-/// A span times a share.
-fn weighed(span: Span<i128>, share: i64) -> Span<i128>
-    requires span_in { EndsWithin 1_000_000_000_000 span }
-    requires share_some { pos 0 ≤ℤ share }
-    requires share_small { share ≤ℤ pos 100_000_000 }
-    ensures { result ≡ (share *ℤ span.0, share *ℤ span.1) }
-{
-    span.sound();
-    match span.scale(i128::from(share)) {
-        Some(span) => span,
-        None => unreachable!(),
-    }
-}
-
-/// The sum of two spans.
-fn sum(a: Span<i128>, b: Span<i128>) -> Span<i128>
-    requires a_in { EndsWithin 100_000_000_000_000_000_000 a }
-    requires b_in { EndsWithin 100_000_000_000_000_000_000 b }
-    ensures { result ≡ (a.0 +ℤ b.0, a.1 +ℤ b.1) }
-{
-    match a.add(b) {
-        Some(span) => span,
-        None => unreachable!(),
-    }
-}
-
-/// The span of what a block adds to the factor of its zone, in 10^-20.
-fn share_span(
+/// The sum of the spans of blocks times their shares, over the sum of the shares, or none exactly where a number on the way is
+/// past `T`.
+fn blocks_span<T: Scalar>(
     state: &State,
     grid: &Grid,
     branch: u32,
     barrier: &Items<i128>,
-    block: &Block,
-    angles: &Angles,
+    blocks: &[Block],
+    angles: &[Angles],
+) -> Option<Span<T>>
+    requires of_grid { IsOfGrid grid.now state.now }
+    requires range { IsInRange grid.now state.now }
+    requires branch { branch < length grid.now.branches }
+    requires carries { carries_at state.now branch ≡ true }
+    requires barrier { IsBarrier state.now barrier.now }
+    requires blocks { All IsBlock blocks.now }
+    requires shares { sum_over (λ b. b.share) blocks.now ≡ pos 100_000_000 }
+    requires encloses { AllZip (λ b a. EnclosesColumn state.now (block_side state.now b) a) blocks.now angles.now }
+    ensures { ForBranch grid.now branch (λ c. IsShared T.whole (T.whole T.LOW) (T.whole T.HIGH) result
+        (parts_of state.now c barrier.now (zip blocks.now angles.now))) }
+{
+    let mut sum = WeightedSum::<T>::empty()?;
+    for place in 0..blocks.len() {
+        let block = &blocks[place];
+        let span = block_span(state, grid, branch, barrier, block, &angles[place]);
+        sum = sum.add(span, block.share)?;
+    }
+    Some(sum.quotient())
+}
+
+/// The span of the factor that blocks with their angles make, summed over 64 bits, or none where a number on the way is past
+/// them. It is there wherever the ends of the spans of all blocks are within 9·10^10.
+fn narrow_span(
+    state: &State,
+    grid: &Grid,
+    branch: u32,
+    barrier: &Items<i128>,
+    blocks: &[Block],
+    angles: &[Angles],
+) -> Option<Span<i128>>
+    requires of_grid { IsOfGrid grid.now state.now }
+    requires range { IsInRange grid.now state.now }
+    requires branch { branch < length grid.now.branches }
+    requires carries { carries_at state.now branch ≡ true }
+    requires barrier { IsBarrier state.now barrier.now }
+    requires blocks { All IsBlock blocks.now }
+    requires shares { sum_over (λ b. b.share) blocks.now ≡ pos 100_000_000 }
+    requires encloses { AllZip (λ b a. EnclosesColumn state.now (block_side state.now b) a) blocks.now angles.now }
+    ensures value { ForBranch grid.now branch (λ c. IfSome result (λ s. s ≡ zone_span_of state.now c barrier.now (zip blocks.now angles.now))) }
+    ensures small { ForBranch grid.now branch (λ c. All (λ z. EndsWithin 90_000_000_000 z.0) (parts_of state.now c barrier.now (zip blocks.now angles.now))
+        → IsSome result) }
+{
+    let span = blocks_span::<i64>(state, grid, branch, barrier, blocks, angles)?;
+    Some(span.wide())
+}
+
+/// The same span, summed over 128 bits.
+fn wide_span(
+    state: &State,
+    grid: &Grid,
+    branch: u32,
+    barrier: &Items<i128>,
+    blocks: &[Block],
+    angles: &[Angles],
 ) -> Span<i128>
     requires of_grid { IsOfGrid grid.now state.now }
     requires range { IsInRange grid.now state.now }
     requires branch { branch < length grid.now.branches }
     requires carries { carries_at state.now branch ≡ true }
     requires barrier { IsBarrier state.now barrier.now }
-    requires block { IsBlock block.now }
-    requires share { block.now.share ≤ℤ pos 100_000_000 }
-    requires encloses { EnclosesColumn state.now (block_side state.now block.now) angles.now }
-    ensures value { ForBranch grid.now branch (λ c. result ≡ share_span_of state.now c barrier.now block.now angles.now) }
-    ensures low { SharedWithin block.now.share result.0 }
-    ensures high { SharedWithin block.now.share result.1 }
+    requires blocks { All IsBlock blocks.now }
+    requires shares { sum_over (λ b. b.share) blocks.now ≡ pos 100_000_000 }
+    requires encloses { AllZip (λ b a. EnclosesColumn state.now (block_side state.now b) a) blocks.now angles.now }
+    ensures { ForBranch grid.now branch (λ c. result ≡ zone_span_of state.now c barrier.now (zip blocks.now angles.now)) }
 {
-    let span = block_span(state, grid, branch, barrier, block, angles);
-    weighed(span, block.share)
+    state.sound();
+    match blocks_span::<i128>(state, grid, branch, barrier, blocks, angles) {
+        Some(span) => span,
+        None => unreachable!(),
+    }
 }
 
 /// The span of the factor that blocks with their angles make, in 10^-12, on a branch that carries.
@@ -136,17 +173,16 @@ fn zone_span(
     requires carries { carries_at state.now branch ≡ true }
     requires barrier { IsBarrier state.now barrier.now }
     requires blocks { All IsBlock blocks.now }
-    requires shares { sum_over (λ b. b.share) blocks.now ≤ℤ pos 100_000_000 }
+    requires shares { sum_over (λ b. b.share) blocks.now ≡ pos 100_000_000 }
     requires encloses { AllZip (λ b a. EnclosesColumn state.now (block_side state.now b) a) blocks.now angles.now }
     ensures value { ForBranch grid.now branch (λ c. result ≡ zone_span_of state.now c barrier.now (zip blocks.now angles.now)) }
     ensures within { EndsWithin 1_000_000_000_000 result }
 {
-    let mut total = Span::exactly(0);
-    for place in 0..blocks.len() {
-        let share = share_span(state, grid, branch, barrier, &blocks[place], &angles[place]);
-        total = sum(total, share);
+    state.sound();
+    match narrow_span(state, grid, branch, barrier, blocks, angles) {
+        Some(span) => span,
+        None => wide_span(state, grid, branch, barrier, blocks, angles),
     }
-    total.div_pos(SHARES)
 }
 
 /// The span of the factor of a zone on a branch, in 10^-12: how much of a watt that the zone exports flows over the branch from
