@@ -35,7 +35,7 @@ module _ (grid : Grid) (slack : ℕ) (outage : List ℕ) (out : List Bool) (coun
   pub parts_lines_below : AreLinksBelow count lines
   parts_lines_below = links_from_lines count lines ranged
 
-  few_lines : length lines ≤ 16384
+  pub few_lines : length lines ≤ 16384
   few_lines =
       let few = grid.few_branches in
       let part = few_links (is_wanted false) (λ k. get_or out k false) grid.branches in
@@ -46,6 +46,9 @@ module _ (grid : Grid) (slack : ℕ) (outage : List ℕ) (out : List Bool) (coun
   parts_short_rows live rows are =
       All-from_get_or (λ row. length row ≤ 16384) rows []
       (λ i b. let size = are.each_class in subst (λ (row : List Edge). length row ≤ 16384) (sym (are.row i (omega arith))) (let part = few_edges_at live i lines in let few = few_lines in omega arith))
+
+  pub few_classes : count ≤ 4096
+  few_classes = let few = grid.few_nodes in let classes = p.classes in let part = classes.few in omega arith
 
   same_lines : lines ≡ class_lines_of outage grid.branches class_of
   same_lines = p.made ∙ ap (map (between class_of)) (links_of_marks false out outage (length grid.branches) grid.branches p.marks)

@@ -3,7 +3,9 @@ pub mod Chains
 pub mod Classes
 pub mod LinkLists
 pub mod Ranges
+pub mod RowFilling
 pub mod RowLists
+pub mod RowPieces
 pub mod Soundness
 pub mod Stranded
 pub mod Trees

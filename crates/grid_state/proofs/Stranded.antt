@@ -10,8 +10,7 @@ use Rattle.fb_types.specs.declared.grid.Node.{Node}
 use Rattle.fb_types.specs.declared.keys.Column.{Column}
 use Rattle.grid_state.specs.GridState.{GridState, class_at, is_live}
 use Rattle.grid_state.specs.Marks.{is_stranded_marked, first_marked, NoneBefore}
-use Rattle.grid_state.specs.Split.{is_nonzero, injection_of, is_keyed, is_stranded, first_stranded_node}
-use Rattle.grid_state.specs.Unions.{AreMarks}
+use Rattle.grid_state.specs.Split.{is_nonzero, injection_of, AreKeyMarks, is_stranded, first_stranded_node}
 
 pub none_before : (s : GridState) (keyed : List Bool) (nodes : List Node) → NoneBefore s keyed nodes 0
 none_before s keyed nodes = record { none = λ i d h. absurd (omega arith) }
@@ -56,6 +55,6 @@ same_position p q e xs = ap (λ (n : ℕ). cond (ltb n (length xs)) (Some n) Non
     same_place [] = refl
     same_place (y ∷ ys) = ap₂ (λ (t : Bool) (n : ℕ). cond (not t) (1 + n) 0) (e y) (same_place ys)
 
-pub marked_is_keyed : (s : GridState) (keyed : List Bool) (n : ℕ) (columns : List Column) (nodes : List Node) → AreMarks n keyed (is_keyed columns) → first_marked s keyed nodes ≡ first_stranded_node s columns nodes
+pub marked_is_keyed : (s : GridState) (keyed : List Bool) (n : ℕ) (columns : List Column) (nodes : List Node) → AreKeyMarks n columns keyed → first_marked s keyed nodes ≡ first_stranded_node s columns nodes
 marked_is_keyed s keyed n columns nodes marks =
-    same_position (is_stranded_marked s keyed) (is_stranded s columns) (λ p. ap (λ (t : Bool). (is_nonzero (injection_of p.1) || t) && not (is_live s (class_at s p.0))) (marks.each p.0)) (enumerate_from 0 nodes)
+    same_position (is_stranded_marked s keyed) (is_stranded s columns) (λ p. ap (λ (t : Bool). (is_nonzero (injection_of p.1) || t) && not (is_live s (class_at s p.0))) (marks.marked p.0)) (enumerate_from 0 nodes)

@@ -2,6 +2,7 @@ pub mod GridState
 pub mod Links
 pub mod Marks
 pub mod Parts
+pub mod RowCuts
 pub mod Rows
 pub mod Split
 pub mod StateLaws

@@ -1,5 +1,5 @@
 -- Slack nodes, and the nodes that a state leaves stranded.
-use Rattle.std.specs.Prelude.{◌≡◌, ℕ, ◌<◌, Bool, not, ◌&&◌, ◌||◌, ◌==◌, ℤ, ◌-ℤ◌, neg_ℤ, ⊤, List, Option, Some, None, position, All, unsigned_abs}
+use Rattle.std.specs.Prelude.{◌≡◌, ℕ, ◌<◌, Bool, false, not, ◌&&◌, ◌||◌, ◌==◌, ℤ, ◌-ℤ◌, neg_ℤ, ⊤, List, length, slice_index_or, Option, Some, None, position, All, unsigned_abs}
 use Rattle.std.specs.List.{list_any, enumerate_from}
 use Rattle.fb_types.specs.declared.grid.Node.{Node}
 use Rattle.fb_types.specs.declared.grid.Grid.{Grid}
@@ -46,6 +46,11 @@ is_loaded columns p = is_nonzero (injection_of p.1) || is_keyed columns p.0
 -- the key weights stand at nodes of the grid
 abbrev pub AreKeysOf : ℕ → List Column → Type 0
 AreKeysOf nodes columns = All (λ column. All (λ block. All (λ w. w.node < nodes) block.weights) column.blocks) columns
+
+-- marks of the nodes, of so many, that have a key weight
+pub record AreKeyMarks (nodes : ℕ) (columns : List Column) (marks : List Bool) : Type 0 where
+  pub each_node : length marks ≡ nodes
+  pub marked : (node : ℕ) → slice_index_or marks node false ≡ is_keyed columns node
 
 -- ---- Split states
 

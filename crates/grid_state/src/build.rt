@@ -1,16 +1,18 @@
 //! Makes the state of a grid.
 
-ghost use Rattle.std.specs.Prelude.{◌≡◌, ℕ, ◌<◌, true, false, length, map, None, All, IfOk, IfErr};
+ghost use Rattle.std.specs.Prelude.{◌≡◌, ℕ, ◌<◌, true, false, List, length, map, None, All, IfOk, IfErr};
+ghost use Rattle.fb_types.specs.declared.keys.Column.{Column};
 ghost use Rattle.grid_state.specs.Links.{AreClasses, AreReached, between};
-ghost use Rattle.grid_state.specs.Split.{AreKeysOf, first_stranded_node, IsSplit, IsCaused};
+ghost use Rattle.grid_state.specs.Split.{AreKeysOf, AreKeyMarks, first_stranded_node, IsSplit, IsCaused};
 ghost use Rattle.grid_state.specs.States.{IsStateOf};
 ghost use Rattle.grid_state.specs.Parts.{AreParts};
 ghost use Rattle.grid_state.specs.Unions.{AreLinksBelow, links_marked};
 
 use crate::components::{Numbering, number_classes};
+use crate::keyed_nodes::KeyedNodes;
 use crate::links::{self, Link};
 use crate::rows;
-use crate::split::{first_stranded, keyed_nodes};
+use crate::split::first_stranded;
 use crate::state_fault::StateFault;
 use crate::types::State;
 use fb_types::{Column, Grid, Items};
@@ -97,6 +99,37 @@ pub fn whole_state(
     with_classes(alloc, grid, slack, outage, &out, nodes, &lines)
 }
 
+/// The state of a grid with an outage, seen from the slack node, where the nodes with a key weight are marked. It is refused
+/// as split exactly where a node of a class that is not live feeds something in or has a key weight.
+///
+/// The slack node and the branches of the outage go by their places in the grid.
+pub fn state_from(
+    alloc: Global,
+    grid: &Grid,
+    slack: u32,
+    outage: &[u32],
+    keyed: &KeyedNodes,
+) -> Result<State, StateFault>
+    requires slack { slack < length grid.now.nodes }
+    requires outage { All (λ k. k < length grid.now.branches) outage.now }
+    requires keyed { length keyed.now ≡ length grid.now.nodes }
+    ensures state { IfOk result (λ s. IsStateOf grid.now slack outage.now s) }
+
+    // The state is given exactly where it is not split, whatever the columns whose key weights are marked.
+    ensures none_stranded { (columns : List Column) → AreKeyMarks (length grid.now.nodes) columns keyed.now → IfOk result (λ s. first_stranded_node s columns grid.now.nodes ≡ None) }
+    ensures not_split { (columns : List Column) → AreKeyMarks (length grid.now.nodes) columns keyed.now → IfOk result (λ _. (node : ℕ) → ¬ IsSplit grid.now slack outage.now columns node) }
+    ensures cause { (columns : List Column) → AreKeyMarks (length grid.now.nodes) columns keyed.now → IfErr result (IsCaused grid.now slack outage.now columns) }
+{
+    let nodes = grid.nodes.as_slice();
+    let Ok(state) = whole_state(alloc, grid, slack, outage) else {
+        return Err(StateFault::Memory(AllocError));
+    };
+    match first_stranded(&state, nodes, keyed.marks()) {
+        Some(node) => Err(StateFault::SplitGrid { node }),
+        None => Ok(state),
+    }
+}
+
 /// The state of a grid with an outage, seen from the slack node. It is refused as split exactly where a node of a class that
 /// is not live feeds something in or has a key weight in some block of some column.
 ///
@@ -118,15 +151,8 @@ pub fn state(
     ensures not_split { IfOk result (λ _. (node : ℕ) → ¬ IsSplit grid.now slack outage.now columns.now node) }
     ensures cause { IfErr result (IsCaused grid.now slack outage.now columns.now) }
 {
-    let nodes = grid.nodes.as_slice();
-    let Ok(state) = whole_state(alloc, grid, slack, outage.as_slice()) else {
+    let Ok(keyed) = KeyedNodes::of(alloc, grid.nodes.as_slice().len(), columns) else {
         return Err(StateFault::Memory(AllocError));
     };
-    let Ok(keyed) = keyed_nodes(alloc, nodes.len(), columns.as_slice()) else {
-        return Err(StateFault::Memory(AllocError));
-    };
-    match first_stranded(&state, nodes, &keyed) {
-        Some(node) => Err(StateFault::SplitGrid { node }),
-        None => Ok(state),
-    }
+    state_from(alloc, grid, slack, outage.as_slice(), &keyed)
 }

@@ -3,13 +3,16 @@
 
 mod build;
 mod components;
+mod flat_rows;
+mod keyed_nodes;
 mod links;
 mod rows;
 mod split;
 mod state_fault;
 mod types;
 
-pub use build::state;
+pub use build::{state, state_from};
+pub use keyed_nodes::KeyedNodes;
 pub use split::slack_of;
 pub use state_fault::StateFault;
 pub use types::{Edge, State};

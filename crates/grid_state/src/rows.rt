@@ -1,14 +1,16 @@
 //! The live classes, and the carrying branches of each.
 
-ghost use Rattle.std.specs.Prelude.{◌≡◌, ◌<◌, ◌≤◌, ◌==◌, ◌++◌, ◌∷◌, [], pos, length, map, slice_index_or, slice_set, All, IfOk, OnOk};
+ghost use Rattle.std.specs.Prelude.{◌≡◌, ◌+◌, ◌-◌, ◌^◌, ◌<◌, ◌≤◌, ◌==◌, [], pos, length, map, slice_index, slice_set, All, IfOk};
 ghost use Rattle.fb_types.specs.GridRanges.{IsBranch};
 ghost use Rattle.grid_state.specs.GridState.{AreSums, susceptance_over};
+ghost use Rattle.grid_state.specs.RowCuts.{before, row_seen, width_seen, AreWidths, AreStarts, AreRowStarts, AreFilled};
 ghost use Rattle.grid_state.specs.Rows.{is_crossing, AreRows, carries_in};
 ghost use Rattle.grid_state.specs.Unions.{AreLinksBelow, carries_marked};
 
+use crate::flat_rows::FlatRows;
 use crate::links::{self, Link};
 use crate::types::Edge;
-use fb_types::{Branch, Items};
+use fb_types::Branch;
 use std::alloc::{AllocError, Global};
 
 /// Marks each place with the label of the given one.
@@ -31,49 +33,112 @@ fn is_crossing(link: &Link, live: &[bool]) -> bool
     link.one != link.other && live[link.one as usize] && live[link.other as usize]
 }
 
-/// Appends a branch to the row of a class.
-fn add_edge(rows: &mut [Items<Edge>], class: u32, edge: Edge) -> Result<(), AllocError>
-    requires { class < length rows.old }
-    ensures { OnOk result (rows.new ≡ slice_set rows.old class (slice_index_or rows.old class [] ++ edge ∷ [])) }
+/// Adds one to the count of a class.
+fn count_one(counts: &mut [u32], class: u32)
+    requires class { class < length counts.old }
+    requires small { slice_index counts.old class < 2 ^ 32 - 1 }
+    ensures { counts.new ≡ slice_set counts.old class (slice_index counts.old class + 1) }
 {
-    rows[class as usize].add(edge)
+    counts[class as usize] += 1;
 }
 
-/// Appends each link that crosses to the rows of both its classes.
-fn fill_rows(rows: &mut [Items<Edge>], live: &[bool], links: &[Link]) -> Result<(), AllocError>
+/// Counts, from 0, the edges of each class: each link that crosses is one for both its classes.
+fn count_edges(counts: &mut [u32], live: &[bool], links: &[Link])
     requires links { AreLinksBelow (length live.now) links.now }
-    requires empty { AreRows live.now [] rows.old }
-    ensures { OnOk result (AreRows live.now links.now rows.new) }
+    requires few { length links.now ≤ 16384 }
+    requires none { AreWidths live.now [] counts.old }
+    ensures { AreWidths live.now links.now counts.new }
+{
+    for link in links {
+        if is_crossing(link, live) {
+            count_one(counts, link.one);
+            count_one(counts, link.other);
+        }
+    }
+}
+
+/// Puts in place of each count the sum of those before it, and answers the sum of all.
+fn starts_of(counts: &mut [u32]) -> u32
+    requires { before (slice_index counts.old) (length counts.old) < 2 ^ 32 }
+    ensures { AreStarts counts.old counts.new result }
+{
+    let mut start = 0;
+    for place in counts.iter_mut() {
+        let count = *place;
+        *place = start;
+        start += count;
+    }
+    start
+}
+
+/// Puts an edge where the cursor of a class stands, and moves the cursor on.
+fn put_edge(cursors: &mut [u32], edges: &mut [Edge], class: u32, edge: Edge)
+    requires class { class < length cursors.old }
+    requires place { slice_index cursors.old class < length edges.old }
+    requires few { length edges.old < 2 ^ 32 }
+    ensures cursors { cursors.new ≡ slice_set cursors.old class (slice_index cursors.old class + 1) }
+    ensures edges { edges.new ≡ slice_set edges.old (slice_index cursors.old class) edge }
+{
+    let place = cursors[class as usize];
+    edges[place as usize] = edge;
+    cursors[class as usize] = place + 1;
+}
+
+/// Puts each link that crosses into the rows of both its classes.
+fn fill_rows(cursors: &mut [u32], edges: &mut [Edge], live: &[bool], links: &[Link])
+    requires links { AreLinksBelow (length live.now) links.now }
+    requires few { length edges.old < 2 ^ 32 }
+    requires none { AreFilled (length live.now) (width_seen live.now links.now) (row_seen live.now []) cursors.old edges.old }
+    ensures { AreFilled (length live.now) (width_seen live.now links.now) (row_seen live.now links.now) cursors.new edges.new }
 {
     for link in links {
         if is_crossing(link, live) {
             let Link { one, other, b } = *link;
-            add_edge(rows, one, Edge { to: other, b })?;
-            add_edge(rows, other, Edge { to: one, b })?;
+            put_edge(cursors, edges, one, Edge { to: other, b });
+            put_edge(cursors, edges, other, Edge { to: one, b });
         }
     }
-    Ok(())
 }
 
-/// An empty row for each class.
-fn empty_rows(alloc: Global, live: &[bool]) -> Result<Vec<Items<Edge>>, AllocError>
-    ensures { IfOk result (λ rows. AreRows live.now [] rows.items) }
+/// How many edges each class has.
+fn edge_counts(alloc: Global, live: &[bool], links: &[Link]) -> Result<Vec<u32>, AllocError>
+    requires links { AreLinksBelow (length live.now) links.now }
+    requires few { length links.now ≤ 16384 }
+    ensures { IfOk result (λ counts. AreWidths live.now links.now counts.items) }
 {
-    let mut rows = Vec::new(alloc);
-    for _class in live {
-        rows.push(Items::new(alloc))?;
-    }
-    Ok(rows)
+    let mut counts = vec![in alloc; 0; live.len()]?;
+    count_edges(&mut counts, live, links);
+    Ok(counts)
 }
 
-/// The rows of the classes.
-pub fn rows(alloc: Global, live: &[bool], links: &[Link]) -> Result<Vec<Items<Edge>>, AllocError>
-    requires { AreLinksBelow (length live.now) links.now }
-    ensures { IfOk result (λ rows. AreRows live.now links.now rows.items) }
+/// The rows of the classes, where it is told at which places they start and how many edges there are.
+fn filled_rows(
+    alloc: Global,
+    live: &[bool],
+    links: &[Link],
+    starts: Vec<u32>,
+    total: u32,
+) -> Result<FlatRows, AllocError>
+    requires links { AreLinksBelow (length live.now) links.now }
+    requires starts { AreRowStarts live.now links.now starts.items total }
+    ensures { IfOk result (λ rows. AreRows live.now links.now rows) }
 {
-    let mut rows = empty_rows(alloc, live)?;
-    fill_rows(&mut rows, live, links)?;
-    Ok(rows)
+    let mut ends = starts;
+    let mut edges = vec![in alloc; Edge { to: 0, b: 0 }; total as usize]?;
+    fill_rows(&mut ends, &mut edges, live, links);
+    Ok(FlatRows::new(edges, ends))
+}
+
+/// The rows of the classes: their edges are counted, and then each is put into its row.
+pub fn rows(alloc: Global, live: &[bool], links: &[Link]) -> Result<FlatRows, AllocError>
+    requires links { AreLinksBelow (length live.now) links.now }
+    requires few_classes { length live.now ≤ 4096 }
+    requires few_links { length links.now ≤ 16384 }
+    ensures { IfOk result (λ rows. AreRows live.now links.now rows) }
+{
+    let mut starts = edge_counts(alloc, live, links)?;
+    let total = starts_of(&mut starts);
+    filled_rows(alloc, live, links, starts, total)
 }
 
 /// The sum of the susceptances of a row.
@@ -89,13 +154,14 @@ fn row_sum(row: &[Edge]) -> i128
 }
 
 /// The sums of the susceptances of the rows.
-pub fn row_sums(alloc: Global, rows: &[Items<Edge>]) -> Result<Vec<i128>, AllocError>
-    requires { All (λ row. length row ≤ 16384) rows.now }
+pub fn row_sums(alloc: Global, rows: &FlatRows) -> Result<Vec<i128>, AllocError>
+    requires short { All (λ row. length row ≤ 16384) rows.now }
+    requires few { length rows.now ≤ 4096 }
     ensures { IfOk result (λ sums. AreSums rows.now sums.items) }
 {
     let mut sums = Vec::new(alloc);
-    for row in rows {
-        sums.push(row_sum(row.as_slice()))?;
+    for class in 0..rows.len() as u32 {
+        sums.push(row_sum(rows.row(class)))?;
     }
     Ok(sums)
 }

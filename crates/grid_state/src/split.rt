@@ -1,14 +1,12 @@
 //! The slack node, and the nodes that a state leaves stranded.
 
-ghost use Rattle.std.specs.Prelude.{◌≡◌, ◌<◌, ◌≤◌, ◌==◌, ◌&&◌, ◌||◌, not, length, position, None, All, IfOk, IfSome};
+ghost use Rattle.std.specs.Prelude.{◌≡◌, ◌<◌, ◌≤◌, ◌==◌, ◌&&◌, ◌||◌, not, length, position, None, IfSome};
 ghost use Rattle.grid_state.specs.GridState.{class_at, is_live};
-ghost use Rattle.grid_state.specs.Marks.{MarksMore, first_marked};
-ghost use Rattle.grid_state.specs.Split.{slack_node_of, is_nonzero, injection_of, is_weighted, is_keyed_in, is_keyed, AreKeysOf};
-ghost use Rattle.grid_state.specs.Unions.{AreMarks};
+ghost use Rattle.grid_state.specs.Marks.{first_marked};
+ghost use Rattle.grid_state.specs.Split.{slack_node_of, is_nonzero, injection_of};
 
 use crate::types::State;
-use fb_types::{Block, Column, Grid, Node, Weight};
-use std::alloc::{AllocError, Global};
+use fb_types::{Grid, Node};
 
 /// The first node of type 3, U and angle.
 fn angle_node(nodes: &[Node]) -> Option<usize>
@@ -33,60 +31,11 @@ pub fn slack_of(grid: &Grid, named: Option<u32>) -> Option<u32>
     }
 }
 
-/// Whether a weight is other than 0.
-fn is_nonzero(weight: i64) -> bool
-    ensures { result ≡ is_nonzero weight }
-{
-    weight != 0
-}
-
 /// Whether a node feeds something in.
 fn is_injecting(node: &Node) -> bool
     ensures { result ≡ is_nonzero (injection_of node.now) }
 {
     i128::from(node.load) + i128::from(node.generation) != 0
-}
-
-/// Marks each node at which a weight other than 0 stands.
-fn mark_weights(marks: &mut [bool], weights: &[Weight])
-    requires { All (λ w. w.node < length marks.old) weights.now }
-    ensures { MarksMore marks.old marks.new (is_weighted weights.now) }
-{
-    for weight in weights {
-        if is_nonzero(weight.weight) {
-            marks[weight.node as usize] = true;
-        }
-    }
-}
-
-/// The same for each block.
-fn mark_blocks(marks: &mut [bool], blocks: &[Block])
-    requires { All (λ block. All (λ w. w.node < length marks.old) block.weights) blocks.now }
-    ensures { MarksMore marks.old marks.new (is_keyed_in blocks.now) }
-{
-    for block in blocks {
-        mark_weights(marks, block.weights.as_slice());
-    }
-}
-
-/// The same for each column.
-fn mark_columns(marks: &mut [bool], columns: &[Column])
-    requires { AreKeysOf (length marks.old) columns.now }
-    ensures { MarksMore marks.old marks.new (is_keyed columns.now) }
-{
-    for column in columns {
-        mark_blocks(marks, column.blocks.as_slice());
-    }
-}
-
-/// Marks, of so many nodes, each that has a key weight.
-pub fn keyed_nodes(alloc: Global, nodes: usize, columns: &[Column]) -> Result<Vec<bool>, AllocError>
-    requires { AreKeysOf nodes columns.now }
-    ensures { IfOk result (λ marks. AreMarks nodes marks.items (is_keyed columns.now)) }
-{
-    let mut marks = vec![in alloc; false; nodes]?;
-    mark_columns(&mut marks, columns);
-    Ok(marks)
 }
 
 /// Whether a node is loaded, and of a class that is not live, where it is told whether the node has a key weight.

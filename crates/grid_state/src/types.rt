@@ -3,6 +3,7 @@
 ghost use Rattle.std.specs.Prelude.{◌≡◌, ◌<◌, length, pos};
 ghost use Rattle.grid_state.specs.GridState.{IsSound, classes_of, class_at, is_live, susceptance_of, row_of, edge_of, carries_at};
 
+use crate::flat_rows::FlatRows;
 use fb_types::Items;
 use std::marker::Model;
 
@@ -20,7 +21,7 @@ pub struct State {
     class_of: Items<u32>,
     slack: u32,
     live: Items<bool>,
-    rows: Items<Items<Edge>>,
+    rows: FlatRows,
     sums: Items<i128>,
     carries: Items<bool>,
 }
@@ -43,18 +44,18 @@ impl State {
         class_of: Vec<u32>,
         slack: u32,
         live: Vec<bool>,
-        rows: Vec<Items<Edge>>,
+        rows: FlatRows,
         carries: Vec<bool>,
         sums: Vec<i128>,
     ) -> State
-        requires { IsKept (record { class_of = class_of.items; slack = slack; live = live.items; rows = rows.items; carries = carries.items }) sums.items }
-        ensures { result ≡ record { class_of = class_of.items; slack = slack; live = live.items; rows = rows.items; carries = carries.items } }
+        requires { IsKept (record { class_of = class_of.items; slack = slack; live = live.items; rows = rows; carries = carries.items }) sums.items }
+        ensures { result ≡ record { class_of = class_of.items; slack = slack; live = live.items; rows = rows; carries = carries.items } }
     {
         State {
             class_of: Items::from_vec(class_of),
             slack,
             live: Items::from_vec(live),
-            rows: Items::from_vec(rows),
+            rows,
             sums: Items::from_vec(sums),
             carries: Items::from_vec(carries),
         }
@@ -103,7 +104,7 @@ impl State {
         requires { class < classes_of self.now }
         ensures { result.now ≡ row_of self.now class }
     {
-        self.rows.as_slice()[class as usize].as_slice()
+        self.rows.row(class)
     }
 
     /// How many carrying branches a class has to other classes. A class that is not live has none.
@@ -111,7 +112,7 @@ impl State {
         requires { class < classes_of self.now }
         ensures { result ≡ length (row_of self.now class) }
     {
-        self.rows.as_slice()[class as usize].as_slice().len() as u32
+        self.rows.row(class).len() as u32
     }
 
     /// The class at the other end of the carrying branch at a place of a class's row, and its susceptance in kW/rad.

@@ -1,10 +1,13 @@
 -- States one by one: none is split so far, or one is the first that is; and the first that is outside the range rule.
-use Rattle.std.proofs.Common.{◌≡◌, ℕ, ◌+◌, ◌<◌, ◌≤◌, List, [], ◌∷◌, ◌++◌, length, take, get_or, Some, None, All, slice_get, inl, inr, arith, refl, sym, ap, subst, ◌∙◌}
+use Rattle.std.proofs.Common.{◌≡◌, ℕ, zero, suc, ◌+◌, ◌<◌, ◌≤◌, List, [], ◌∷◌, ◌++◌, length, map, take, get_or, Option, Some, None, All, slice_get, inl, inr, arith, refl, sym, ap, subst, ◌∙◌}
 use Rattle.std.specs.List.{AllZip}
+use Rattle.std.specs.Option.{option_map_or}
 use Rattle.std.proofs.lemmas.List.{take_more, length-take, get_or-take, take_all}
-use Rattle.std.proofs.lemmas.List.Elements.{All-push, All-more}
+use Rattle.std.proofs.lemmas.List.Elements.{All-nil, All-push, All-more}
 use Rattle.std.proofs.lemmas.Option.{slice_get-get_or, slice_get_within, get_or_from_slice_get}
 use Rattle.std.proofs.lemmas.Slice.Zip.{all_zipped_more}
+use Rattle.fb_types.specs.declared.crac.Contingency.{Contingency}
+use Rattle.fb_types.specs.declared.crac.Crac.{Crac}
 use Rattle.fb_types.specs.declared.grid.Grid.{Grid}
 use Rattle.fb_types.specs.declared.keys.Column.{Column}
 use Rattle.grid_state.specs.GridState.{GridState}
@@ -13,7 +16,9 @@ use Rattle.grid_state.specs.States.{IsStateOf}
 use Rattle.grid_state.specs.declared.state_fault.StateFault.{StateFault}
 use Rattle.grid_state.specs.declared.state_fault.StateFault.TheVariants as faults
 use Rattle.grid_laplacian.specs.Ranges.{IsInRange}
-use Rattle.run_inputs.specs.Building.{AreUnsplit, IsToldAt, IsSplitAt, IsFirstOutside}
+use Rattle.fb_certificate.specs.CracRows.{branches_out}
+use Rattle.fb_certificate.specs.Whole.{IsCracOver}
+use Rattle.run_inputs.specs.Building.{out_in, AreUnsplit, IsToldAt, IsSplitAt, IsFirstOutside}
 use Rattle.run_inputs.specs.RefusalLaws.{all_at, none_split}
 use Rattle.run_inputs.specs.Refusals.{IsFirstSplit, IsMemory}
 use Rattle.run_inputs.specs.declared.fault.InputsError.{InputsError}
@@ -24,6 +29,27 @@ taken_at xs i k x lt e =
     let within = slice_get_within xs k x e in
     let size = length-take i xs in
     slice_get-get_or (take i xs) k x (omega arith) ∙ ap Some (get_or-take i xs k x lt ∙ get_or_from_slice_get xs k x x e)
+
+-- ---- The branches that are out in a state are branches of the grid
+
+branches_below : (n : ℕ) (contingencies : List Contingency) (k : ℕ) → All (λ c. All (λ j. j < n) c.branches) contingencies → All (λ j. j < n) (branches_out contingencies k)
+branches_below n contingencies k all = of_some (slice_get contingencies k) (λ c e. all_at (λ (d : Contingency). All (λ j. j < n) d.branches) contingencies k c all e)
+  where
+    of_some : (o : Option Contingency) → ((c : Contingency) → o ≡ Some c → All (λ j. j < n) c.branches) → All (λ j. j < n) (option_map_or (λ c. c.branches) o [])
+    of_some None gives = All-nil (λ j. j < n)
+    of_some (Some c) gives = gives c refl
+
+mapped_below : (n : ℕ) (contingencies : List Contingency) (outages : List ℕ) (i : ℕ) → All (λ c. All (λ j. j < n) c.branches) contingencies
+    → All (λ j. j < n) (get_or (map (branches_out contingencies) outages) i [])
+mapped_below n contingencies [] i all = All-nil (λ j. j < n)
+mapped_below n contingencies (k ∷ ks) zero all = branches_below n contingencies k all
+mapped_below n contingencies (k ∷ ks) (suc i) all = mapped_below n contingencies ks i all
+
+pub out_below : (n : ℕ) (crac : Crac) (outages : List ℕ) (i : ℕ) → IsCracOver n crac → All (λ j. j < n) (out_in crac outages i)
+out_below n crac outages zero is = All-nil (λ j. j < n)
+out_below n crac outages (suc i) is = mapped_below n crac.contingencies outages i is.outages
+
+-- ---- States one by one
 
 module _ (grid : Grid) (slack : ℕ) (columns : List Column) where
   pub unsplit-more : (out : List (List ℕ)) (i : ℕ) (states : List GridState) (s : GridState) → i < length out → AreUnsplit grid slack columns (take i out) states → IsStateOf grid slack (get_or out i []) s

@@ -1,8 +1,7 @@
 //! The grid states of a run.
 
-ghost use Rattle.std.specs.Prelude.{◌≡◌, ℕ, ◌+◌, ◌<◌, ◌≤◌, None, length, All, IfOk, IfErr};
-ghost use Rattle.grid_state.specs.Split.{AreKeysOf, first_stranded_node, IsSplit, IsCaused};
-ghost use Rattle.grid_state.specs.States.{IsStateOf};
+ghost use Rattle.std.specs.Prelude.{◌≡◌, ℕ, ◌+◌, ◌<◌, ◌≤◌, length, All, IfOk, IfErr};
+ghost use Rattle.grid_state.specs.Split.{AreKeysOf};
 ghost use Rattle.fb_certificate.specs.CracRows.{out_by_state};
 ghost use Rattle.fb_certificate.specs.Whole.{IsCracOver};
 ghost use Rattle.run_inputs.specs.Building.{out_in, AreUnsplit, IsToldAt, IsSplitAt};
@@ -10,35 +9,22 @@ ghost use Rattle.run_inputs.specs.Refusals.{code_at};
 
 use crate::fault::InputsError;
 use fb_types::{Column, Crac, Grid, Items, Text};
-use grid_state::{State, StateFault, state};
+use grid_state::{KeyedNodes, State, StateFault, state_from};
 use std::alloc::Global;
 
-/// The grid state of this number: 0 is the base state, and behind it come those after each outage.
-fn numbered_state(
-    alloc: Global,
-    grid: &Grid,
-    slack: u32,
-    crac: &Crac,
-    outages: &[u32],
-    columns: &Items<Column>,
-    number: usize,
-) -> Result<State, StateFault>
-    requires slack { slack < length grid.now.nodes }
-    requires crac { IsCracOver (length grid.now.branches) crac.now }
+/// The branches that are out in the state of this number: none in the base state, of number 0, and behind it come the states
+/// after each outage.
+fn out_in<'a>(crac: &'a Crac, outages: &[u32], number: usize) -> &'a [u32]
     requires outages { All (λ k. k < length crac.now.contingencies) outages.now }
-    requires keys { AreKeysOf (length grid.now.nodes) columns.now }
     requires number { number ≤ length outages.now }
-    ensures state { IfOk result (λ s. IsStateOf grid.now slack (out_in crac.now outages.now number) s) }
-    ensures none_stranded { IfOk result (λ s. first_stranded_node s columns.now grid.now.nodes ≡ None) }
-    ensures cause { IfErr result (IsCaused grid.now slack (out_in crac.now outages.now number) columns.now) }
+    ensures { result.now ≡ out_in crac.now outages.now number }
 {
     if number == 0 {
-        let none = Items::new(alloc);
-        return state(alloc, grid, slack, &none, columns);
+        return &[];
     }
     let outage = outages[number - 1];
     let contingency = &crac.contingencies.as_slice()[outage as usize];
-    state(alloc, grid, slack, &contingency.branches, columns)
+    contingency.branches.as_slice()
 }
 
 /// The code of the node at a place, counted from 0. It is empty past the end.
@@ -84,9 +70,11 @@ pub fn states(
     ensures states { IfOk result (AreUnsplit grid.now slack columns.now (out_by_state crac.now outages.now)) }
     ensures cause { IfErr result (IsSplitAt grid.now slack columns.now (out_by_state crac.now outages.now)) }
 {
+    let keyed = KeyedNodes::of(alloc, grid.nodes.as_slice().len(), columns)?;
     let mut states = Items::new(alloc);
     for number in 0..outages.len() + 1 {
-        match numbered_state(alloc, grid, slack, crac, outages, columns, number) {
+        let out = out_in(crac, outages, number);
+        match state_from(alloc, grid, slack, out, &keyed) {
             Ok(state) => states.add(state)?,
             Err(fault) => return Err(refused_at(alloc, grid, number as u32, fault)),
         }
