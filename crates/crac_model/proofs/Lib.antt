@@ -5,5 +5,6 @@ pub mod TableLaws
 pub mod TestLaws
 pub mod PlaceLaws
 pub mod RangeLaws
+pub mod StepLaws
 pub mod CountLaws
 pub mod CracLaws

@@ -122,7 +122,7 @@ fn contingency_list(
 }
 
 /// The contingencies.
-#[tactic(auto, unfolding(crate::specs::Crac::contingencies_of, json_reading::specs::Reading::spot))]
+#[tactic(auto, unfolding(crate::specs::Crac::contingencies_of))]
 pub fn read_contingencies(
     alloc: Global,
     grid: GridNames<'_>,
@@ -131,12 +131,9 @@ pub fn read_contingencies(
     ensures list { Gives (λ v. v.items) result (contingencies_of (grid_of grid.entry) (at_of at.now)) }
     ensures few { IfOk result (λ v. length v.items ≤ 512) }
 {
-    match at.member(alloc, "contingencies")? {
+    match at.inner(alloc, "contingencies")? {
         None => Ok(Vec::new(alloc)),
-        Some(spot) => {
-            let place = at.place_of(alloc, "contingencies")?;
-            contingency_list(alloc, grid, &at.at(spot, place.as_text()))
-        }
+        Some(inner) => contingency_list(alloc, grid, &inner),
     }
 }
 

@@ -151,7 +151,7 @@ fn amounts_at(
 }
 
 /// A member that is a number, or an array of one or two, each from the least to the greatest.
-#[tactic(auto, unfolding(crate::specs::Ratings::amounts, json_reading::specs::Reading::spot))]
+#[tactic(auto, unfolding(crate::specs::Ratings::amounts))]
 pub fn amounts(
     alloc: Global,
     low: i64,
@@ -161,11 +161,10 @@ pub fn amounts(
 ) -> Result<Option<Sides>, ReadError<CracKind>>
     ensures { Gives same result (amounts low high name.now (at_of at.now)) }
 {
-    match at.member(alloc, name)? {
+    match at.inner(alloc, name)? {
         None => Ok(None),
-        Some(spot) => {
-            let place = at.place_of(alloc, name)?;
-            let found = amounts_at(alloc, low, high, &at.at(spot, place.as_text()))?;
+        Some(inner) => {
+            let found = amounts_at(alloc, low, high, &inner)?;
             Ok(Some(found))
         }
     }

@@ -19,7 +19,7 @@ use crate::names::{GridNames, branch_places};
 use crate::outages::{contingency_places, read_contingencies};
 use fb_json::Doc;
 use fb_types::{Branch, Crac, Grid, Items, Node};
-use json_reading::{Here, ReadError, required_array};
+use json_reading::{Here, Place, ReadError, required_array};
 use name_tables::NameTable;
 use std::alloc::Global;
 
@@ -67,7 +67,7 @@ fn crac_of(
     };
     let at = Here {
         spot: doc.root(),
-        place: "",
+        place: Place::Root,
         missing: CracKind::Missing,
         wrong: CracKind::WrongType,
     };

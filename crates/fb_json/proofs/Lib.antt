@@ -4,3 +4,8 @@ pub mod Strings
 pub mod Listed
 pub mod Trees
 pub mod Examples
+pub mod Tables
+pub mod Turns
+pub mod NumberTexts
+pub mod Gathered
+pub mod Looking

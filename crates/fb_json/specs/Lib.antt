@@ -4,3 +4,6 @@ pub mod Marking
 pub mod Machine
 pub mod Tree
 pub mod Spots
+pub mod Node
+pub mod Kept
+pub mod Building

@@ -1,36 +1,28 @@
 //! The tree of a document, and its spots.
 
-ghost use Rattle.std.specs.Prelude.{◌≡◌, List, Some, ◌==◌, ℕ, ◌∷◌, ◌<◌, IfOk, IfErr, IsErr, IsTrue, MatchResult, alloc_error};
+ghost use Rattle.std.specs.Prelude.{◌≡◌, List, Some, ◌==◌, ℕ, ◌∷◌, ◌<◌, ◌≤◌, length, IfSome, IfOk, IfErr, IsErr, IsTrue, MatchResult, alloc_error};
 ghost use Rattle.std.specs.Str.{bytes_eq};
 ghost use Rattle.std.specs.Option.{option_map};
-ghost use Rattle.serde_json.specs.Data.{Data};
+ghost use Rattle.serde_json.specs.Data.{Data, no_members};
 ghost use Rattle.serde_json.specs.Find.{get_member, as_str};
-ghost use Rattle.serde_json.specs.View.{view, members_view};
+ghost use Rattle.fb_json.specs.Node.{part_of};
+ghost use Rattle.fb_json.specs.Kept.{cut, pairs_span, end_of, put_all, trees_of, tree_of, Lies};
 ghost use Rattle.fb_json.specs.Marking.{text_mark, number_mark};
 ghost use Rattle.fb_json.specs.Number.{IsNumber};
 ghost use Rattle.fb_decimal.specs.Spelling.{IsSpelling};
 ghost use Rattle.fb_decimal.specs.Reading.{spelled_as};
-ghost use Rattle.fb_json.specs.Tree.{HasTree, got_map, behind, number_in, member_of, length_of, item_of, text_of, decimal_of, truth_of};
+ghost use Rattle.fb_json.specs.Tree.{HasTree, got_map, present, behind, number_in, member_of, length_of, item_of, text_of, decimal_of, truth_of};
 ghost use Rattle.fb_json.specs.Spots.{doc_tree, spot_tree};
 ghost use Rattle.fb_json.specs.declared.document.JsonFault.TheVariants.{NotJson, Memory};
 
+use crate::builder::{Refusal, build};
+use crate::kept::{Doc, Spot};
 use crate::marking::mark;
+use crate::node::{Node, Part, Span};
 use fb_decimal::{Decimal, read_decimal};
-use serde_json::{Map, Value};
 use std::alloc::{AllocError, Global};
+use std::str;
 use thiserror::Error;
-
-/// A document: the tree that `serde_json` reads from the marked bytes.
-#[derive(Drop)]
-pub struct Doc {
-    value: Value,
-}
-
-/// A place in a document: its root, a member of an object, or an item of an array.
-#[derive(Clone, Copy)]
-pub struct Spot<'a> {
-    value: &'a Value,
-}
 
 /// Why bytes are not read as a document.
 #[derive(Debug, Drop, Error)]
@@ -62,10 +54,13 @@ pub fn tree(alloc: Global, bytes: &[u8]) -> Result<Doc, JsonFault>
     ensures refuses { ((d : Data) → HasTree bytes.now d → ⊥) → IsErr result }
 {
     let marked = mark(alloc, bytes).map_err(JsonFault::Memory)?;
-    match Value::from_slice(alloc, &marked) {
-        Ok(value) => Ok(Doc { value }),
-        Err(e) if e.is_memory() => Err(JsonFault::Memory(AllocError)),
-        Err(_) => Err(JsonFault::NotJson),
+    let Ok(text) = str::from_utf8(&marked) else {
+        return Err(JsonFault::NotJson);
+    };
+    match build(alloc, text) {
+        Ok(doc) => Ok(doc),
+        Err(Refusal::Memory) => Err(JsonFault::Memory(AllocError)),
+        Err(Refusal::NotJson) => Err(JsonFault::NotJson),
     }
 }
 
@@ -74,7 +69,10 @@ impl Doc {
     pub fn root(&self) -> Spot<'_>
         ensures { spot_tree result ≡ doc_tree self.now }
     {
-        Spot { value: &self.value }
+        Spot {
+            doc: self,
+            node: self.root,
+        }
     }
 }
 
@@ -88,12 +86,24 @@ fn names(key: &[u8], name: &[u8]) -> bool
     }
 }
 
-fn find_member<'a>(members: &'a Map<String, Value>, name: &str) -> Option<&'a Value>
-    ensures { option_map (λ v. view v.now) result ≡ get_member (text_mark ∷ name.now) (members_view members.now.entries) }
+/// The member of that name among so many members that lie in the nodes at the span. Of equal names the last counts.
+fn find_member(doc: &Doc, span: Span, name: &str) -> Option<Node>
+    requires { end_of (pairs_span span) ≤ length doc.now.nodes.items }
+    ensures tree { option_map (tree_of doc.now.texts.items doc.now.nodes.items) result
+        ≡ get_member (text_mark ∷ name.now)
+        (put_all (cut (pairs_span span) (trees_of doc.now.texts.items doc.now.nodes.items)) no_members) }
+    ensures lies { IfSome result
+        (λ n. Lies doc.now.texts.items (length doc.now.nodes.items) (part_of n)) }
 {
-    for (key, value) in members.iter() {
-        if names(key.as_bytes(), name.as_bytes()) {
-            return Some(value);
+    let members = doc.nodes_at(Span {
+        start: span.start,
+        len: span.len * 2,
+    });
+    let mut count = span.len;
+    while count > 0 {
+        count -= 1;
+        if names(doc.name_of(members[count * 2]), name.as_bytes()) {
+            return Some(members[count * 2 + 1]);
         }
     }
     None
@@ -110,36 +120,43 @@ fn behind(text: &str, mark: char) -> Got<&str>
     }
 }
 
-#[tactic(auto, unfolding(crate::specs::Tree::decimal_of))]
-fn number_of(value: &Value) -> Got<Decimal>
-    ensures { result ≡ decimal_of (view value.now) }
-{
-    match value.as_str() {
-        None => Got::Wrong,
-        Some(text) => match behind(text, 'n') {
-            Got::Value(number) => match read_decimal(number) {
-                Ok(number) => Got::Value(number),
-                Err(_) => Got::Wrong,
-            },
-            _ => Got::Wrong,
-        },
-    }
-}
-
 impl<'a> Spot<'a> {
+    /// The spot itself, if null does not stand there.
+    fn present(&self) -> Got<Spot<'a>>
+        ensures { got_map spot_tree result ≡ present (Some (spot_tree self.now)) }
+    {
+        match self.node.part() {
+            Part::Null => Got::Absent,
+            _ => Got::Value(*self),
+        }
+    }
+
+    /// The text with its mark, where one stands there.
+    fn marked_text(&self) -> Option<&'a str>
+        ensures { option_map (λ t. t.now) result ≡ as_str (spot_tree self.now) }
+    {
+        match self.node.part() {
+            Part::Text(span) => Some(self.doc.text_at(span)),
+            _ => None,
+        }
+    }
+
     /// The member of that name: `Wrong` where the spot is no object, `Absent` where the object has no such member or it is
     /// null. It goes over the members and takes no memory.
     #[tactic(auto, unfolding(crate::specs::Tree::member_of))]
     pub fn member(&self, name: &str) -> Got<Spot<'a>>
         ensures { got_map spot_tree result ≡ member_of name.now (spot_tree self.now) }
     {
-        match self.value.as_object() {
-            None => Got::Wrong,
-            Some(members) => match find_member(members, name) {
-                None => Got::Absent,
-                Some(value) if value.is_null() => Got::Absent,
-                Some(value) => Got::Value(Spot { value }),
-            },
+        let Part::Object(span) = self.node.part() else {
+            return Got::Wrong;
+        };
+        match find_member(self.doc, span, name) {
+            None => Got::Absent,
+            Some(node) => Spot {
+                doc: self.doc,
+                node,
+            }
+            .present(),
         }
     }
 
@@ -148,9 +165,9 @@ impl<'a> Spot<'a> {
     pub fn length(&self) -> Got<u64>
         ensures { result ≡ length_of (spot_tree self.now) }
     {
-        match self.value.as_array() {
-            None => Got::Wrong,
-            Some(items) => Got::Value(items.as_slice().len() as u64),
+        match self.node.part() {
+            Part::Array(span) => Got::Value(span.len as u64),
+            _ => Got::Wrong,
         }
     }
 
@@ -159,12 +176,15 @@ impl<'a> Spot<'a> {
     pub fn item(&self, at: u64) -> Got<Spot<'a>>
         ensures { got_map spot_tree result ≡ item_of at (spot_tree self.now) }
     {
-        match self.value.as_array() {
-            None => Got::Wrong,
-            Some(items) => match items.get(at as usize) {
-                None => Got::Absent,
-                Some(value) => Got::Value(Spot { value }),
-            },
+        let Part::Array(span) = self.node.part() else {
+            return Got::Wrong;
+        };
+        match self.doc.nodes_at(span).get(at as usize) {
+            None => Got::Absent,
+            Some(node) => Got::Value(Spot {
+                doc: self.doc,
+                node: *node,
+            }),
         }
     }
 
@@ -173,7 +193,7 @@ impl<'a> Spot<'a> {
     pub fn text(&self) -> Got<&'a str>
         ensures { got_map (λ t. t.now) result ≡ text_of (spot_tree self.now) }
     {
-        match self.value.as_str() {
+        match self.marked_text() {
             None => Got::Wrong,
             Some(text) => behind(text, 's'),
         }
@@ -188,7 +208,7 @@ impl<'a> Spot<'a> {
         ensures number { (run : List ℕ) → IsNumber run → as_str (spot_tree self.now) ≡ Some (number_mark ∷ run)
             → (s : IsSpelling run) × (result ≡ number_in (spelled_as s)) }
     {
-        number_of(self.value)
+        number_of(self)
     }
 
     /// Whether true stands there: `Wrong` where the spot is neither `true` nor `false`, nor one of them as a text.
@@ -196,7 +216,7 @@ impl<'a> Spot<'a> {
     pub fn truth(&self) -> Got<bool>
         ensures { result ≡ truth_of (spot_tree self.now) }
     {
-        if let Some(truth) = self.value.as_bool() {
+        if let Part::Truth(truth) = self.node.part() {
             return Got::Value(truth);
         }
         match self.text() {
@@ -204,5 +224,21 @@ impl<'a> Spot<'a> {
             Got::Value("false") => Got::Value(false),
             _ => Got::Wrong,
         }
+    }
+}
+
+#[tactic(auto, unfolding(crate::specs::Tree::decimal_of))]
+fn number_of(spot: &Spot<'_>) -> Got<Decimal>
+    ensures { result ≡ decimal_of (spot_tree spot.now) }
+{
+    match spot.marked_text() {
+        None => Got::Wrong,
+        Some(text) => match behind(text, 'n') {
+            Got::Value(number) => match read_decimal(number) {
+                Ok(number) => Got::Value(number),
+                Err(_) => Got::Wrong,
+            },
+            _ => Got::Wrong,
+        },
     }
 }

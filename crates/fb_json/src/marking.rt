@@ -112,10 +112,44 @@ fn without_byte_order_mark(bytes: &[u8]) -> &[u8]
     }
 }
 
+/// How many bytes are put for a run.
+fn run_room(run: &[u8]) -> usize {
+    if is_number(run) { run.len() + 3 } else { 1 }
+}
+
+/// How many bytes are put for what stands at the front of the bytes, and what stands behind it.
+fn front_room(bytes: &[u8]) -> (usize, &[u8])
+    requires { bytes.now ≢ [] }
+    ensures { length result.1.now < length bytes.now }
+{
+    let behind = &bytes[1..];
+    if begins_run(bytes[0]) {
+        let (run, rest) = bytes.split_at(run_len(bytes));
+        return (run_room(run), rest);
+    }
+    if bytes[0] == b'"' {
+        let (string, rest) = behind.split_at(string_len(behind));
+        return (string.len() + 2, rest);
+    }
+    (1, behind)
+}
+
+/// How many bytes the marking has, so that its buffer is made once.
+fn room(bytes: &[u8]) -> usize {
+    let mut room: usize = 0;
+    let mut rest = bytes;
+    while !rest.is_empty() {
+        let (front, behind) = front_room(rest);
+        room = room.saturating_add(front);
+        rest = behind;
+    }
+    room
+}
+
 fn mark_all(alloc: Global, bytes: &[u8]) -> Result<Vec<u8>, AllocError>
     ensures { IfOk result (λ v. v.items ≡ outside bytes.now) }
 {
-    let mut out = Vec::new(alloc);
+    let mut out = Vec::with_capacity(alloc, room(bytes))?;
     let mut rest = bytes;
     while !rest.is_empty() {
         rest = mark_front(&mut out, rest)?;

@@ -24,7 +24,7 @@ use document::keys_at;
 use fb_json::Doc;
 use fb_types::Grid;
 use homes::homes;
-use json_reading::{Here, ReadError};
+use json_reading::{Here, Place, ReadError};
 use known::Known;
 pub use model::{KeyError, KeyKind, Keys};
 use run_settings::{NodeTable, Settings};
@@ -58,7 +58,7 @@ fn read(alloc: Global, doc: &Doc, grid: &Grid, settings: &Settings) -> Result<Ke
     };
     let at = Here {
         spot: doc.root(),
-        place: "",
+        place: Place::Root,
         missing: KeyKind::Missing,
         wrong: KeyKind::WrongType,
     };

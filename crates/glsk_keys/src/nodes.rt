@@ -81,7 +81,7 @@ fn node_here(
 }
 
 /// The same of a member.
-#[tactic(auto, using(json_reading::proofs::Refused::refused), unfolding(crate::specs::Document::node_in, json_reading::specs::Reading::spot))]
+#[tactic(auto, using(json_reading::proofs::Refused::refused), unfolding(crate::specs::Document::node_in))]
 fn node_in(
     alloc: Global,
     known: &Known<'_>,
@@ -91,12 +91,9 @@ fn node_in(
 ) -> Result<u32, ReadError<KeyKind>>
     ensures { Gives same result (node_in (facts_of known.now) zone name.now (at_of at.now)) }
 {
-    match at.member(alloc, name)? {
+    match at.inner(alloc, name)? {
         None => Err(at.fault_in(alloc, name, at.missing)),
-        Some(spot) => {
-            let place = at.place_of(alloc, name)?;
-            node_here(alloc, known, zone, &at.at(spot, place.as_text()))
-        }
+        Some(inner) => node_here(alloc, known, zone, &inner),
     }
 }
 

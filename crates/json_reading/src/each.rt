@@ -9,7 +9,6 @@ ghost use Rattle.json_reading.specs.Here.{at_of};
 
 use crate::fault::ReadError;
 use crate::here::Here;
-use crate::place::in_item;
 use fb_json::{Got, Spot};
 use std::alloc::{AllocError, Global};
 
@@ -77,8 +76,7 @@ where
     let mut items = Vec::new(alloc);
     for number in 0..count {
         let spot = item_at(&at.spot, number);
-        let place = in_item(alloc, at.place, number)?;
-        let here = at.at(spot, place.as_text());
+        let here = at.item(number, spot);
         let item = reader.read(alloc, index, &items, &here)?;
         keep(&mut items, item)?;
     }
@@ -107,7 +105,7 @@ where
 }
 
 /// The items of a member that is an array, if it is there.
-#[tactic(auto, using(crate::proofs::Refused::refused), unfolding(crate::specs::Reading::optional_array, crate::specs::Reading::spot))]
+#[tactic(auto, using(crate::proofs::Refused::refused), unfolding(crate::specs::Reading::optional_array))]
 pub fn optional_array<R: ItemReader>(
     alloc: Global,
     reader: &R,
@@ -121,11 +119,10 @@ where
     ensures items { Gives (option_map (λ v. v.items)) result (optional_array (R.reads reader.now) name.now (at_of at.now)) }
     ensures index { IfOk result (λ found. IfSome found (λ v. R.keeps index.new v.items)) }
 {
-    match at.member(alloc, name)? {
+    match at.inner(alloc, name)? {
         None => Ok(None),
-        Some(spot) => {
-            let place = at.place_of(alloc, name)?;
-            let items = array(alloc, reader, index, &at.at(spot, place.as_text()))?;
+        Some(inner) => {
+            let items = array(alloc, reader, index, &inner)?;
             Ok(Some(items))
         }
     }

@@ -1,49 +1,53 @@
 //! Members of a form, or the fault.
 
-ghost use Rattle.std.specs.Prelude.{◌≡◌, IfOk};
+ghost use Rattle.std.specs.Prelude.{◌≡◌};
 ghost use Rattle.std.specs.Option.{option_map};
 ghost use Rattle.fb_json.specs.Tree.{text_of, decimal_of, truth_of, length_of};
 ghost use Rattle.fb_json.specs.Spots.{spot_tree};
-ghost use Rattle.json_reading.specs.Place.{in_member};
-ghost use Rattle.json_reading.specs.Reading.{member, optional, required, here, is_true, has, absent, found_or, fault_in, fault_here};
+ghost use Rattle.json_reading.specs.Place.{in_member, in_item};
+ghost use Rattle.json_reading.specs.Reading.{member, optional, required, spot, here, is_true, has, absent, found_or, fault_in, fault_here};
 ghost use Rattle.json_reading.specs.Outcome.{Gives, Refuses, same};
-ghost use Rattle.json_reading.specs.Here.{at_of};
+ghost use Rattle.json_reading.specs.Here.{at_of, place_text};
 
 use crate::fault::ReadError;
-use crate::place::in_member;
+use crate::place::Place;
 use fb_decimal::Decimal;
 use fb_json::{Got, Spot};
-use fb_types::Text;
-use std::alloc::{AllocError, Global};
+use std::alloc::Global;
 
 /// A spot of a document with its place, and how the document's faults of form are called.
 #[derive(Clone, Copy)]
 pub struct Here<'a, K> {
     pub spot: Spot<'a>,
-    pub place: &'a str,
+    pub place: Place<'a>,
     pub missing: K,
     pub wrong: K,
+}
+
+/// A fault at a place.
+fn fault_at<K: Copy>(alloc: Global, place: &Place<'_>, kind: K) -> ReadError<K>
+    ensures { Refuses result (place_text place.now) kind }
+{
+    match place.text(alloc) {
+        Ok(place) => ReadError::Fault { place, kind },
+        Err(e) => ReadError::Memory(e),
+    }
 }
 
 impl<'a, K: Copy> Here<'a, K> {
     /// A fault at the spot.
     pub fn fault(&self, alloc: Global, kind: K) -> ReadError<K>
-        ensures { Refuses result self.now.place.now kind }
+        ensures { Refuses result (place_text self.now.place) kind }
     {
-        match Text::from_text(alloc, self.place) {
-            Ok(place) => ReadError::Fault { place, kind },
-            Err(e) => ReadError::Memory(e),
-        }
+        fault_at(alloc, &self.place, kind)
     }
 
     /// A fault at a member.
     pub fn fault_in(&self, alloc: Global, name: &str, kind: K) -> ReadError<K>
-        ensures { Refuses result (in_member self.now.place.now name.now) kind }
+        ensures { Refuses result (in_member (place_text self.now.place) name.now) kind }
     {
-        match in_member(alloc, self.place, name) {
-            Ok(place) => ReadError::Fault { place, kind },
-            Err(e) => ReadError::Memory(e),
-        }
+        let outer = &self.place;
+        fault_at(alloc, &Place::Member { outer, name }, kind)
     }
 
     #[tactic(auto, using(crate::proofs::Refused::refused), unfolding(crate::specs::Reading::member))]
@@ -220,16 +224,35 @@ impl<'a, K: Copy> Here<'a, K> {
         }
     }
 
-    /// The text of a member's place.
-    pub fn place_of(&self, alloc: Global, name: &str) -> Result<Text, AllocError>
-        ensures { IfOk result (λ t. t ≡ in_member self.now.place.now name.now) }
+    /// The spot of a member, if it is there.
+    #[tactic(auto, unfolding(crate::specs::Reading::spot))]
+    pub fn inner<'b>(
+        &'b self,
+        alloc: Global,
+        name: &'b str,
+    ) -> Result<Option<Here<'b, K>>, ReadError<K>>
+        ensures { Gives (option_map at_of) result (spot name.now (at_of self.now)) }
     {
-        in_member(alloc, self.place, name)
+        match self.member(alloc, name)? {
+            None => Ok(None),
+            Some(spot) => {
+                let outer = &self.place;
+                Ok(Some(self.at(spot, Place::Member { outer, name })))
+            }
+        }
+    }
+
+    /// The spot of an item of the array, by its number.
+    pub fn item<'b>(&'b self, number: u64, spot: Spot<'b>) -> Here<'b, K>
+        ensures { at_of result ≡ record (at_of self.now) { place = in_item (place_text self.now.place) number; tree = spot_tree spot.entry } }
+    {
+        let outer = &self.place;
+        self.at(spot, Place::Item { outer, number })
     }
 
     /// Another spot of the same document, at this place.
-    pub fn at<'b>(&self, spot: Spot<'b>, place: &'b str) -> Here<'b, K>
-        ensures { at_of result ≡ record (at_of self.now) { place = place.now; tree = spot_tree spot.entry } }
+    fn at<'b>(&self, spot: Spot<'b>, place: Place<'b>) -> Here<'b, K>
+        ensures { at_of result ≡ record (at_of self.now) { place = place_text place.entry; tree = spot_tree spot.entry } }
     {
         Here {
             spot,

@@ -14,7 +14,7 @@ use crate::times::moment_of;
 use crate::zones::zones_of;
 use fb_json::Doc;
 use fb_types::{Grid, Items};
-use json_reading::{Here, ReadError};
+use json_reading::{Here, Place, ReadError};
 use std::alloc::Global;
 
 #[tactic(auto, using(json_reading::proofs::Refused::refused), unfolding(crate::specs::Settings::permille_in))]
@@ -91,7 +91,7 @@ fn read(alloc: Global, doc: &Doc, grid: &Grid) -> Result<Settings, SettingsError
 {
     let at = Here {
         spot: doc.root(),
-        place: "",
+        place: Place::Root,
         missing: SettingsKind::Missing,
         wrong: SettingsKind::WrongType,
     };

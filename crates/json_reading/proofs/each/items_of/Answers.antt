@@ -12,9 +12,9 @@ read-requires g c = subst (λ items. g.R.ItemReader.keeps c.loop-number.index it
 
 pub returns-in_err-item-clause-items : goal.returns-in_err-item-clause-items
 returns-in_err-item-clause-items g c =
-    let p = err_from_is_err_and c.from_residual-in_err-item.result c.from_residual-in_err-item.ensures.1 in
+    let p = err_from_is_err_and c.from_residual.result c.from_residual.ensures.1 in
     let so_far = rw c.item_at-spot.ensures at c.loop-number.invariant.0 in
-    let read = rw (c.at-here.ensures, c.deref.ensures.value, c.as_text.ensures.bytes, c.in_ok-place.ensures) at c.in_err-item.ensures.item in
+    let read = rw (c.item-here.ensures, c.deref.ensures.value) at c.in_err-item.ensures.item in
     rw (p.1, p.2) (ends c.in_err-item.field-0.0 (g.R.ItemReader.reads c.args.reader.now) c.loop-number.items.items _ _ _ read so_far)
 
 kept_few : {B : Type 0} (before after : List B) (item : Option B) (number : ℕ) → after ≡ before ++ option_to_list item → length before ≤ number → length after ≤ number + 1
@@ -24,7 +24,7 @@ kept_few before after (Some x) number e le = rw (e, length-append) (omega (arith
 pub loop-number-preserved : goal.loop-number-preserved
 loop-number-preserved g c =
     let so_far = rw c.item_at-spot.ensures at c.loop-number.invariant.0 in
-    let read = rw (c.at-here.ensures, c.deref.ensures.value, c.as_text.ensures.bytes, c.in_ok-place.ensures) at c.in_ok-item.ensures.item in (
+    let read = rw (c.item-here.ensures, c.deref.ensures.value) at c.in_ok-item.ensures.item in (
       goes_on (g.R.ItemReader.reads c.args.reader.now) c.loop-number.items.items c.keep.new.items.items _ _ c.in_ok-item.item _ read c.in_ok-keep.ensures so_far,
       rw (c.in_ok-keep.ensures, sym c.deref.ensures.value) c.in_ok-item.ensures.index,
       kept_few c.loop-number.items.items c.keep.new.items.items c.in_ok-item.item c.loop-number.number c.in_ok-keep.ensures c.loop-number.invariant.2,
