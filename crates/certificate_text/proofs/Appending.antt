@@ -23,13 +23,14 @@ numbers_spaced x [] = sym (append-nil (signed_decimal x))
 numbers_spaced x (y ∷ ys) = ap (λ t. signed_decimal x ++ 32 ∷ t) (numbers_spaced y ys)
 
 -- the class of a row, its right sides and its coefficients
-pub row_pieces : (word : List ℕ) (inner outer : ℤ) (a : List ℤ) (first new : List ℕ) → first ≡ word ++ 32 ∷ (signed_decimal inner ++ 32 ∷ signed_decimal outer)
-    → new ≡ first ++ spaced_text a → new ≡ word ++ 32 ∷ numbers_text (inner ∷ outer ∷ a)
-row_pieces word inner outer a first new was is =
-    is ∙ ap (λ t. t ++ spaced_text a) was
-    ∙ append_assoc word (32 ∷ (signed_decimal inner ++ 32 ∷ signed_decimal outer)) (spaced_text a)
-    ∙ ap (λ t. word ++ 32 ∷ t) (append_assoc (signed_decimal inner) (32 ∷ signed_decimal outer) (spaced_text a))
-    ∙ ap (λ t. word ++ 32 ∷ (signed_decimal inner ++ 32 ∷ t)) (sym (numbers_spaced outer a))
+pub row_pieces : (word : List ℕ) (inner outer : ℤ) (a : List ℤ) (first sides new : List ℕ) → first ≡ word → sides ≡ first ++ spaced_text (inner ∷ outer ∷ [])
+    → new ≡ sides ++ spaced_text a → new ≡ word ++ 32 ∷ numbers_text (inner ∷ outer ∷ a)
+row_pieces word inner outer a first sides new e₁ e₂ e₃ =
+    let two = spaced_text (inner ∷ outer ∷ []) in
+    e₃ ∙ ap (λ t. t ++ spaced_text a) (e₂ ∙ ap (λ t. t ++ two) e₁)
+    ∙ append_assoc word two (spaced_text a)
+    ∙ ap (λ t. word ++ t) (sym (flat_map-append (λ (x : ℤ). 32 ∷ signed_decimal x) (inner ∷ outer ∷ []) a))
+    ∙ ap (λ t. word ++ 32 ∷ t) (sym (numbers_spaced inner (outer ∷ a)))
 
 -- ---- Items
 

@@ -1,13 +1,14 @@
 //! The columns of a state.
 
-ghost use Rattle.std.specs.Prelude.{◌≡◌, ◌++◌, ◌∷◌, map, IfOk, OnOk, string_bytes};
+ghost use Rattle.std.specs.Prelude.{◌≡◌, ◌++◌, map, pos, IfOk, OnOk, string_bytes};
 ghost use Rattle.std.specs.List.{zip};
 ghost use Rattle.csv_rows.specs.Tables.{record_text};
 ghost use Rattle.certificate_text.specs.CertificateTexts.{block_places, zone_places, line_of_column, lines_text};
-ghost use Rattle.certificate_text.specs.Lines.{angles_text, fields_of};
+ghost use Rattle.certificate_text.specs.Lines.{angles_text, place_text, fields_of};
 
 use crate::line::put_line;
 use crate::numbers::put_numbers;
+use csv_rows::{Table, put_whole};
 use fb_types::{Angles, Column};
 use std::alloc::{AllocError, Global};
 
@@ -42,18 +43,18 @@ fn put_zone_places(
 /// Appends a column for each block of the state with this number, up to the last that has a place.
 pub(crate) fn put_columns(
     alloc: Global,
-    text: &mut Vec<u8>,
+    table: &mut Table,
     state: usize,
     places: &[(usize, usize)],
     blocks: &[Angles],
 ) -> Result<(), AllocError>
-    ensures { OnOk result (text.new.items ≡ text.old.items ++ lines_text (map (line_of_column state) (zip places.now blocks.now))) }
+    ensures { OnOk result (table.new.text ≡ table.old.text ++ lines_text (map (line_of_column state) (zip places.now blocks.now))) }
 {
     for (k, angles) in blocks.iter().enumerate() {
         let Some(place) = places.get(k) else {
             return Ok(());
         };
-        put_column(alloc, text, state, *place, angles)?;
+        put_column(alloc, table, state, *place, angles)?;
     }
     Ok(())
 }
@@ -61,25 +62,35 @@ pub(crate) fn put_columns(
 /// Appends a column of the state with this number, at a zone and a block.
 pub(crate) fn put_column(
     alloc: Global,
-    text: &mut Vec<u8>,
+    table: &mut Table,
     state: usize,
     place: (usize, usize),
     angles: &Angles,
 ) -> Result<(), AllocError>
-    ensures { OnOk result (text.new.items ≡ text.old.items ++ record_text (fields_of (line_of_column state (place, angles.now)))) }
+    ensures { OnOk result (table.new.text ≡ table.old.text ++ record_text (fields_of (line_of_column state (place, angles.now)))) }
+{
+    let key = place_text(alloc, state, place)?;
+    let value = angles_text(alloc, angles)?;
+    put_line(table, "column", key.as_str(), value.as_str())
+}
+
+/// The number of a state, a zone and a block.
+fn place_text(alloc: Global, state: usize, place: (usize, usize)) -> Result<String, AllocError>
+    ensures { IfOk result (λ text. string_bytes text ≡ place_text (record { state = pos state; zone = pos place.0; block = pos place.1 })) }
 {
     let (zone, block) = place;
-    let key = format!(in alloc; "{state} {zone} {block}")?;
-    let value = angles_text(alloc, angles)?;
-    put_line(alloc, text, "column", key.as_str(), value.as_str())
+    let mut text = String::new(alloc);
+    put_numbers(&mut text, &[state as i128, zone as i128, block as i128])?;
+    Ok(text)
 }
 
 /// Kappa, and then the angles.
 fn angles_text(alloc: Global, angles: &Angles) -> Result<String, AllocError>
     ensures { IfOk result (λ text. string_bytes text ≡ angles_text angles.now) }
 {
-    let kappa = angles.kappa;
-    let mut text = format!(in alloc; "{kappa} ")?;
-    put_numbers(alloc, &mut text, angles.w.as_slice())?;
+    let mut text = String::new(alloc);
+    put_whole(&mut text, i128::from(angles.kappa))?;
+    text.push(' ')?;
+    put_numbers(&mut text, angles.w.as_slice())?;
     Ok(text)
 }

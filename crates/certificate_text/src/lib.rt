@@ -13,6 +13,7 @@ mod states;
 
 use cites::put_cites;
 pub use columns::block_places;
+use csv_rows::Table;
 use fb_certificate::{Certificate, Inputs};
 use line::put_line;
 use rows::put_rows;
@@ -37,18 +38,18 @@ pub fn write_certificate(
 {
     let ids = state_ids(alloc, inputs)?;
     let places = block_places(alloc, inputs.keys.columns.as_slice())?;
-    let mut text = Vec::new(alloc);
-    put_line(alloc, &mut text, "version", "", "1")?;
+    let mut table = Table::new(alloc);
+    put_line(&mut table, "version", "", "1")?;
     put_states(
         alloc,
-        &mut text,
+        &mut table,
         ids.as_slice(),
         places.as_slice(),
         certificate.states.as_slice(),
     )?;
-    put_rows(alloc, &mut text, certificate.rows.as_slice())?;
-    put_cites(alloc, &mut text, "inner", certificate.inner.as_slice())?;
-    put_cites(alloc, &mut text, "outer", certificate.outer.as_slice())?;
-    put_line(alloc, &mut text, "end", "", "")?;
-    Ok(text)
+    put_rows(alloc, &mut table, certificate.rows.as_slice())?;
+    put_cites(alloc, &mut table, "inner", certificate.inner.as_slice())?;
+    put_cites(alloc, &mut table, "outer", certificate.outer.as_slice())?;
+    put_line(&mut table, "end", "", "")?;
+    table.into_text()
 }

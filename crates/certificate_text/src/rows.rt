@@ -6,21 +6,23 @@ ghost use Rattle.certificate_text.specs.CertificateTexts.{line_of_row, lines_of_
 ghost use Rattle.certificate_text.specs.Lines.{fields_of, row_text};
 
 use crate::line::put_line;
-use crate::numbers::put_coefficients;
+use crate::numbers::put_spaced;
 use cnec_rows::RowProof;
+use csv_rows::Table;
 use domain_report::class_word;
+use itoa::Buffer;
 use std::alloc::{AllocError, Global};
 
 /// Appends the line of each row, numbered from 1.
 pub(crate) fn put_rows(
     alloc: Global,
-    text: &mut Vec<u8>,
+    table: &mut Table,
     rows: &[RowProof],
 ) -> Result<(), AllocError>
-    ensures { OnOk result (text.new.items ≡ text.old.items ++ lines_text (lines_of_rows rows.now)) }
+    ensures { OnOk result (table.new.text ≡ table.old.text ++ lines_text (lines_of_rows rows.now)) }
 {
     for (k, row) in rows.iter().enumerate() {
-        put_numbered(alloc, text, k + 1, row)?;
+        put_numbered(alloc, table, k + 1, row)?;
     }
     Ok(())
 }
@@ -28,25 +30,23 @@ pub(crate) fn put_rows(
 /// Appends the line of the row with this number.
 fn put_numbered(
     alloc: Global,
-    text: &mut Vec<u8>,
+    table: &mut Table,
     number: usize,
     row: &RowProof,
 ) -> Result<(), AllocError>
-    ensures { OnOk result (text.new.items ≡ text.old.items ++ record_text (fields_of (line_of_row (number, row.now)))) }
+    ensures { OnOk result (table.new.text ≡ table.old.text ++ record_text (fields_of (line_of_row (number, row.now)))) }
 {
-    let key = format!(in alloc; "{number}")?;
+    let mut digits = Buffer::new();
     let value = row_text(alloc, row)?;
-    put_line(alloc, text, "row", key.as_str(), value.as_str())
+    put_line(table, "row", digits.format(number), value.as_str())
 }
 
 /// The class of a row, its right sides and its coefficients.
 fn row_text(alloc: Global, row: &RowProof) -> Result<String, AllocError>
     ensures { IfOk result (λ text. string_bytes text ≡ row_text row.now) }
 {
-    let class = class_word(row.class);
-    let inner = &row.r_in;
-    let outer = &row.r_out;
-    let mut text = format!(in alloc; "{class} {inner} {outer}")?;
-    put_coefficients(alloc, &mut text, row.a.as_slice())?;
+    let mut text = String::from_str(alloc, class_word(row.class))?;
+    put_spaced(&mut text, &[row.r_in, row.r_out])?;
+    put_spaced(&mut text, row.a.as_slice())?;
     Ok(text)
 }

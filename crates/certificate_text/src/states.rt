@@ -9,8 +9,10 @@ ghost use Rattle.certificate_text.specs.Lines.{barrier_line, fields_of};
 use crate::columns::{put_column, put_columns};
 use crate::line::put_line;
 use crate::numbers::put_numbers;
+use csv_rows::Table;
 use domain_report::contingency_id;
 use fb_certificate::Inputs;
+use itoa::Buffer;
 use state_proofs::StateProof;
 use std::alloc::{AllocError, Global};
 
@@ -32,18 +34,18 @@ pub fn state_ids(alloc: Global, inputs: &Inputs) -> Result<Vec<&str>, AllocError
 /// Appends the lines of each state, up to the last that has an id.
 pub(crate) fn put_states(
     alloc: Global,
-    text: &mut Vec<u8>,
+    table: &mut Table,
     ids: &[&str],
     places: &[(usize, usize)],
     proofs: &[StateProof],
 ) -> Result<(), AllocError>
-    ensures { OnOk result (text.new.items ≡ text.old.items ++ lines_text (flat_map (lines_of_state places.now) (zip (enumerate_from 0 (map (λ id. id.now) ids.now)) proofs.now))) }
+    ensures { OnOk result (table.new.text ≡ table.old.text ++ lines_text (flat_map (lines_of_state places.now) (zip (enumerate_from 0 (map (λ id. id.now) ids.now)) proofs.now))) }
 {
     for (k, proof) in proofs.iter().enumerate() {
         let Some(id) = ids.get(k) else {
             return Ok(());
         };
-        put_state(alloc, text, k, id, places, proof)?;
+        put_state(alloc, table, k, id, places, proof)?;
     }
     Ok(())
 }
@@ -52,32 +54,32 @@ pub(crate) fn put_states(
 /// reference and of each block.
 fn put_state(
     alloc: Global,
-    text: &mut Vec<u8>,
+    table: &mut Table,
     state: usize,
     id: &str,
     places: &[(usize, usize)],
     proof: &StateProof,
 ) -> Result<(), AllocError>
-    ensures { OnOk result (text.new.items ≡ text.old.items ++ lines_text (lines_of_state places.now ((state, id.now), proof.now))) }
+    ensures { OnOk result (table.new.text ≡ table.old.text ++ lines_text (lines_of_state places.now ((state, id.now), proof.now))) }
 {
-    let key = format!(in alloc; "{state}")?;
-    put_line(alloc, text, "state", key.as_str(), id)?;
-    put_barrier(alloc, text, state, proof.barrier.as_slice())?;
-    put_column(alloc, text, state, (0, 0), &proof.reference)?;
-    put_columns(alloc, text, state, places, proof.blocks.as_slice())
+    let mut digits = Buffer::new();
+    put_line(table, "state", digits.format(state), id)?;
+    put_barrier(alloc, table, state, proof.barrier.as_slice())?;
+    put_column(alloc, table, state, (0, 0), &proof.reference)?;
+    put_columns(alloc, table, state, places, proof.blocks.as_slice())
 }
 
 /// Appends the barrier of the state with this number.
 fn put_barrier(
     alloc: Global,
-    text: &mut Vec<u8>,
+    table: &mut Table,
     state: usize,
     barrier: &[i128],
 ) -> Result<(), AllocError>
-    ensures { OnOk result (text.new.items ≡ text.old.items ++ record_text (fields_of (barrier_line (pos state) barrier.now))) }
+    ensures { OnOk result (table.new.text ≡ table.old.text ++ record_text (fields_of (barrier_line (pos state) barrier.now))) }
 {
-    let key = format!(in alloc; "{state}")?;
+    let mut digits = Buffer::new();
     let mut value = String::new(alloc);
-    put_numbers(alloc, &mut value, barrier)?;
-    put_line(alloc, text, "barrier", key.as_str(), value.as_str())
+    put_numbers(&mut value, barrier)?;
+    put_line(table, "barrier", digits.format(state), value.as_str())
 }

@@ -1,2 +1,3 @@
+pub mod AnyLengths
 pub mod Determined
 pub mod Turns

@@ -1,3 +1,4 @@
 pub mod Rows
 pub mod TableLaws
+pub mod TableStates
 pub mod Tables

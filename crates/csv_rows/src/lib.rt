@@ -4,36 +4,19 @@
 //! have any number of fields.
 #![tactic(auto)]
 
-ghost use Rattle.std.specs.Prelude.{◌≡◌, ◌∷◌, ◌++◌, [], map, true, false, IfOk, OnOk, OnErr};
+ghost use Rattle.std.specs.Prelude.{◌≡◌, ◌∷◌, [], true, false, IfOk};
 ghost use Rattle.csv.specs.Records.{fields_of};
 ghost use Rattle.csv_rows.specs.Rows.{records_in, rows_left, IsAtRow, IsWantOfMemory};
-ghost use Rattle.csv_rows.specs.Tables.{record_text};
 
-use csv::{ByteRecord, Error, ErrorKind, Reader, ReaderBuilder, WriterBuilder};
+mod fields;
+mod table;
+mod wholes;
+
+use csv::{ByteRecord, Error, ErrorKind, Reader, ReaderBuilder};
+pub use fields::Fields;
 use std::alloc::{AllocError, Global};
-
-/// The text of one record.
-fn row_bytes(alloc: Global, fields: &[&[u8]]) -> Result<Vec<u8>, Error>
-    ensures { IfOk result (λ v. v.items ≡ record_text (map (λ f. f.now) fields.now)) }
-{
-    let mut writer = WriterBuilder::new().from_writer(Vec::new(alloc));
-    writer.write_fields(fields)?;
-    match writer.into_inner() {
-        Ok(text) => Ok(text),
-        Err(e) => Err(e.into_error()),
-    }
-}
-
-/// Appends the text of one record. Where there is no memory nothing is changed.
-pub fn put_row(alloc: Global, out: &mut Vec<u8>, fields: &[&[u8]]) -> Result<(), AllocError>
-    ensures ok { OnOk result (out.new.items ≡ out.old.items ++ record_text (map (λ f. f.now) fields.now)) }
-    ensures err { OnErr result (out.new.items ≡ out.old.items) }
-{
-    match row_bytes(alloc, fields) {
-        Ok(text) => out.extend_from_slice(&text),
-        Err(_) => Err(AllocError),
-    }
-}
+pub use table::Table;
+pub use wholes::put_whole;
 
 /// A reader of the records of the text, at the first of them.
 pub fn rows(alloc: Global, text: &[u8]) -> Reader<&[u8]>

@@ -15,11 +15,11 @@ mod rows;
 mod standing;
 
 use cite_index::Cites;
-use columns::header;
+use columns::put_header;
+use csv_rows::{Fields, Table};
 use fb_certificate::{Certificate, Inputs, RunRow, run_rows};
-use fields::put_record;
-use rows::row_fields;
 pub use rows::{class_word, contingency_id};
+use rows::{put_labels, put_proof};
 pub use standing::citation_text;
 use std::alloc::{AllocError, Global};
 
@@ -38,44 +38,47 @@ pub fn write_domain(
     requires { IsWhole inputs.now }
     ensures { IfOk result (λ text. text.items ≡ domain_text inputs.now certificate.now) }
 {
-    let columns = header(alloc, inputs.settings.zones.as_slice())?;
-    let mut text = Vec::new(alloc);
-    put_record(alloc, &mut text, columns.as_slice())?;
+    let mut table = Table::new(alloc);
+    let mut columns = Fields::new(alloc);
+    put_header(alloc, &mut columns, inputs.settings.zones.as_slice())?;
+    table.put_fields(&columns)?;
     let rows = run_rows(alloc, inputs)?;
-    put_rows(alloc, &mut text, inputs, rows.as_slice(), certificate)?;
-    Ok(text)
+    put_rows(alloc, &mut table, inputs, rows.as_slice(), certificate)?;
+    table.into_text()
 }
 
 /// Appends the records of the rows of the run.
 fn put_rows(
     alloc: Global,
-    text: &mut Vec<u8>,
+    table: &mut Table,
     inputs: &Inputs,
     rows: &[RunRow],
     certificate: &Certificate,
 ) -> Result<(), AllocError>
     requires whole { IsWhole inputs.now }
     requires rows { rows.now ≡ run_rows inputs.now }
-    ensures { OnOk result (text.new.items ≡ text.old.items ++ table_text (records inputs.now.crac certificate.now)) }
+    ensures { OnOk result (table.new.text ≡ table.old.text ++ table_text (records inputs.now.crac certificate.now)) }
 {
     let cites = Cites::new(alloc, rows.len() as u32 + 1, certificate)?;
     let contingencies = inputs.crac.contingencies.as_slice();
     let elements = inputs.crac.elements.as_slice();
+    let mut fields = Fields::new(alloc);
     for (place, row) in rows.iter().enumerate() {
         let Some(numbers) = certificate.rows.get(place as u64) else {
             return Ok(())
         };
         let element = &elements[row.element as usize];
-        let fields = row_fields(
-            alloc,
+        let number = place as u32 + 1;
+        fields.clear();
+        put_labels(
+            &mut fields,
             contingencies,
-            &cites,
-            place as u32 + 1,
+            number,
             element,
-            row.direction,
-            numbers,
+            row.direction.is_opposite(),
         )?;
-        put_record(alloc, text, fields.as_slice())?;
+        put_proof(alloc, &mut fields, &cites, number, numbers)?;
+        table.put_fields(&fields)?;
     }
     Ok(())
 }

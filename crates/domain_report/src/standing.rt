@@ -7,6 +7,7 @@ ghost use Rattle.domain_report.specs.Standings.{IsIndexFor, standing_word, stand
 
 use crate::cite_index::CiteIndex;
 use cnec_selection::Class;
+use csv_rows::put_whole;
 use fb_types::{Mult, Multipliers};
 use std::alloc::{AllocError, Global};
 
@@ -68,35 +69,24 @@ pub(crate) fn word(standing: Standing) -> &'static str
     }
 }
 
-/// The citation of a row that is removed, empty for another.
-pub(crate) fn citation(alloc: Global, standing: Standing) -> Result<String, AllocError>
-    ensures { IfOk result (λ text. string_bytes text ≡ standing_citation standing.entry) }
-{
-    match standing {
-        Standing::Absent => Ok(String::new(alloc)),
-        Standing::Kept => Ok(String::new(alloc)),
-        Standing::Removed(by) => citation_text(alloc, by),
-    }
-}
-
 /// Multipliers as text: mu, and then for each multiplier a blank, its row, a colon and its value.
 pub fn citation_text(alloc: Global, by: &Multipliers) -> Result<String, AllocError>
     ensures { IfOk result (λ text. string_bytes text ≡ citation_text by.now) }
 {
-    let mu = by.mu;
-    let mut text = format!(in alloc; "{mu}")?;
+    let mut text = String::new(alloc);
+    put_whole(&mut text, by.mu)?;
     for m in by.mults.as_slice() {
-        put_multiplier(alloc, &mut text, m)?;
+        put_multiplier(&mut text, m)?;
     }
     Ok(text)
 }
 
 /// Appends a multiplier.
-fn put_multiplier(alloc: Global, text: &mut String, m: &Mult) -> Result<(), AllocError>
+fn put_multiplier(text: &mut String, m: &Mult) -> Result<(), AllocError>
     ensures { OnOk result (string_bytes text.new ≡ string_bytes text.old ++ multiplier_text m.now) }
 {
-    let row = m.row;
-    let value = m.value;
-    let piece = format!(in alloc; " {row}:{value}")?;
-    text.push_str(piece.as_str())
+    text.push(' ')?;
+    put_whole(text, i128::from(m.row))?;
+    text.push(':')?;
+    put_whole(text, m.value)
 }

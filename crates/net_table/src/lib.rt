@@ -8,8 +8,9 @@ ghost use Rattle.net_table.specs.Totals.{totals_in};
 
 mod totals;
 
-use csv_rows::put_row;
+use csv_rows::Table;
 use fb_types::{Branch, Grid};
+use itoa::Buffer;
 use std::alloc::{AllocError, Global};
 use totals::{Totals, totals};
 
@@ -19,40 +20,37 @@ pub fn net_text(alloc: Global, grid: &Grid) -> Result<Vec<u8>, AllocError>
     ensures { IfOk result (λ text. text.items ≡ net_text grid.now.nodes grid.now.branches) }
 {
     let totals = totals(alloc, grid)?;
-    let mut text = Vec::new(alloc);
-    put_row(alloc, &mut text, &[b"code".as_slice(), b"net".as_slice()])?;
-    put_totals(alloc, &mut text, &totals)?;
-    put_notes(alloc, &mut text, grid.branches.as_slice())?;
-    Ok(text)
+    let mut table = Table::new(alloc);
+    table.put_slices(&[b"code".as_slice(), b"net".as_slice()])?;
+    put_totals(&mut table, &totals)?;
+    put_notes(&mut table, grid.branches.as_slice())?;
+    table.into_text()
 }
 
 /// Appends a record for each total.
-fn put_totals(alloc: Global, text: &mut Vec<u8>, totals: &Totals) -> Result<(), AllocError>
-    ensures { OnOk result (text.new.items ≡ text.old.items ++ table_text (rows_of (totals_in totals.now.entries))) }
+fn put_totals(table: &mut Table, totals: &Totals) -> Result<(), AllocError>
+    ensures { OnOk result (table.new.text ≡ table.old.text ++ table_text (rows_of (totals_in totals.now.entries))) }
 {
+    let mut digits = Buffer::new();
     for k in 0..totals.len() {
         let Some((code, net)) = totals.get_index(k) else {
             continue;
         };
-        let net = format!(in alloc; "{net}")?;
-        put_row(alloc, text, &[code.as_bytes(), net.as_bytes()])?;
+        let net = digits.format(*net);
+        table.put_slices(&[code.as_bytes(), net.as_bytes()])?;
     }
     Ok(())
 }
 
 /// Appends a record for each branch whose reactance was raised.
-fn put_notes(alloc: Global, text: &mut Vec<u8>, branches: &[Branch]) -> Result<(), AllocError>
-    ensures { OnOk result (text.new.items ≡ text.old.items ++ table_text (note_rows branches.now)) }
+fn put_notes(table: &mut Table, branches: &[Branch]) -> Result<(), AllocError>
+    ensures { OnOk result (table.new.text ≡ table.old.text ++ table_text (note_rows branches.now)) }
 {
     for branch in branches {
         if !branch.floored {
             continue;
         }
-        put_row(
-            alloc,
-            text,
-            &[b"note".as_slice(), branch.id.as_text().as_bytes()],
-        )?;
+        table.put_slices(&[b"note".as_slice(), branch.id.as_text().as_bytes()])?;
     }
     Ok(())
 }

@@ -4,4 +4,4 @@ use Rattle.domain_report.specs.DomainTexts.{records}
 use Rattle.domain_report.proofs.put_rows.Given as goal
 
 abbrev pub invariant-loop-place : goal.invariant-loop-place
-invariant-loop-place l = l.text.items ≡ l.initial.text.items ++ table_text (take l.place (records l.inputs.crac l.certificate))
+invariant-loop-place l = l.table.text ≡ l.initial.table.text ++ table_text (take l.place (records l.inputs.crac l.certificate))

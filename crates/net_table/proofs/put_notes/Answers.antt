@@ -13,7 +13,7 @@ loop-branch-preserved-then-not-branch c =
     let branch = c.branch-item.result in
     let unraised : (get_or branches k branch).floored ≡ false = ap (λ b. b.floored) (sym c.branch-item.is) ∙ c.if-not-branch.true in
     c.loop-branch.invariant
-    ∙ ap (λ rs. c.args.text.now.items ++ table_text rs) (sym (note_none branches k branch c.loop-branch-test.true unraised))
+    ∙ ap (λ rs. c.args.table.now.text ++ table_text rs) (sym (note_none branches k branch c.loop-branch-test.true unraised))
 
 pub loop-branch-preserved : goal.loop-branch-preserved
 loop-branch-preserved c =
@@ -23,6 +23,6 @@ loop-branch-preserved c =
     let raised : (get_or branches k branch).floored ≡ true = ap (λ b. b.floored) (sym c.branch-item.is) ∙ c.if-not-branch.false in
     let note = c.as_slice.ensures in
     let id = c.as_bytes.ensures.value ∙ c.as_text.ensures.bytes ∙ ap (λ b. b.id) c.branch-item.is in
-    record_more c.args.text.now.items c.loop-branch.text.items _ (note_rows (take k branches)) (codes "note" ∷ (get_or branches k branch).id ∷ [])
-    c.loop-branch.invariant (c.in_ok-put_row.ensures.ok ∙ (λ i. c.loop-branch.text.items ++ record_text (note i ∷ id i ∷ [])))
-    ∙ ap (λ rs. c.args.text.now.items ++ table_text rs) (sym (note_more branches k branch c.loop-branch-test.true raised))
+    record_more c.args.table.now.text c.loop-branch.table.text _ (note_rows (take k branches)) (codes "note" ∷ (get_or branches k branch).id ∷ [])
+    c.loop-branch.invariant (c.in_ok-put_slices.ensures.ok ∙ (λ i. c.loop-branch.table.text ++ record_text (note i ∷ id i ∷ [])))
+    ∙ ap (λ rs. c.args.table.now.text ++ table_text rs) (sym (note_more branches k branch c.loop-branch-test.true raised))

@@ -4,4 +4,4 @@ use Rattle.net_table.specs.NetTexts.{note_rows}
 use Rattle.net_table.proofs.put_notes.Given as goal
 
 abbrev pub invariant-loop-branch : goal.invariant-loop-branch
-invariant-loop-branch l = l.text.items ≡ l.initial.text.items ++ table_text (note_rows (take l.branch-index l.branches))
+invariant-loop-branch l = l.table.text ≡ l.initial.table.text ++ table_text (note_rows (take l.branch-index l.branches))

@@ -5,4 +5,4 @@ use Rattle.net_table.specs.Totals.{totals_in}
 use Rattle.net_table.proofs.put_totals.Given as goal
 
 abbrev pub invariant-loop-k : goal.invariant-loop-k
-invariant-loop-k l = l.text.items ≡ l.initial.text.items ++ table_text (rows_of (totals_in (take l.k l.totals.entries)))
+invariant-loop-k l = l.table.text ≡ l.initial.table.text ++ table_text (rows_of (totals_in (take l.k l.totals.entries)))

@@ -11,5 +11,5 @@ loop-cite-preserved c =
     let cites = c.args.cites.now in
     let k = c.loop-cite.cite-index in
     let cite = c.cite-item.result in
-    record_more c.args.text.now.items c.loop-cite.text.items c.put_cite.new.text.items (map fields (take k cites)) (fields cite) c.loop-cite.invariant c.in_ok-put_cite.ensures
-    ∙ ap (λ rs. c.args.text.now.items ++ table_text rs) (sym (mapped_more fields cites k cite (item_more cites k cite c.loop-cite-test.true c.cite-item.is)))
+    record_more c.args.table.now.text c.loop-cite.table.text c.put_cite.new.table.text (map fields (take k cites)) (fields cite) c.loop-cite.invariant c.in_ok-put_cite.ensures
+    ∙ ap (λ rs. c.args.table.now.text ++ table_text rs) (sym (mapped_more fields cites k cite (item_more cites k cite c.loop-cite-test.true c.cite-item.is)))

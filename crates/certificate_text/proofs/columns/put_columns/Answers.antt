@@ -8,7 +8,7 @@ pub returns-in_default : goal.returns-in_default
 returns-in_default c =
     let past : length c.args.places.now ≤ c.loop-k.k = c.in_default.ensures.lookup.3 in
     c.loop-k.invariant
-    ∙ ap (λ ps. c.args.text.now.items ++ lines_text (map (line_of_column c.args.state) ps)) (pairs_done c.args.places.now c.args.blocks.now c.loop-k.k (omega (arith, past)))
+    ∙ ap (λ ps. c.args.table.now.text ++ lines_text (map (line_of_column c.args.state) ps)) (pairs_done c.args.places.now c.args.blocks.now c.loop-k.k (omega (arith, past)))
 
 pub loop-k-preserved : goal.loop-k-preserved
 loop-k-preserved c =
@@ -21,10 +21,10 @@ loop-k-preserved c =
     let within : k < length places = c.in-Some.ensures.lookup.3.0 in
     let read : place ≡ get_or places k place = c.in-Some.ensures.lookup.1 in
     let pairs = zip places blocks in
-    line_added c.args.text.now.items c.loop-k.text.items c.put_column.new.text.items (map line (take k pairs)) (line (place, angles)) c.loop-k.invariant c.in_ok-put_column.ensures
-    ∙ ap (λ ls. c.args.text.now.items ++ lines_text ls) (sym (mapped_more line pairs k (place, angles) (pairs_more places blocks k place angles within c.loop-k-test.true read c.index-blocks-k.is)))
+    line_added c.args.table.now.text c.loop-k.table.text c.put_column.new.table.text (map line (take k pairs)) (line (place, angles)) c.loop-k.invariant c.in_ok-put_column.ensures
+    ∙ ap (λ ls. c.args.table.now.text ++ lines_text ls) (sym (mapped_more line pairs k (place, angles) (pairs_more places blocks k place angles within c.loop-k-test.true read c.index-blocks-k.is)))
 
 pub returns : goal.returns
 returns c =
     c.loop-k.invariant
-    ∙ ap (λ ps. c.args.text.now.items ++ lines_text (map (line_of_column c.args.state) ps)) (pairs_done c.args.places.now c.args.blocks.now c.loop-k.k (omega (arith, c.loop-k-test.false)))
+    ∙ ap (λ ps. c.args.table.now.text ++ lines_text (map (line_of_column c.args.state) ps)) (pairs_done c.args.places.now c.args.blocks.now c.loop-k.k (omega (arith, c.loop-k-test.false)))

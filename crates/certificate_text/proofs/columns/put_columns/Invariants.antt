@@ -4,4 +4,4 @@ use Rattle.certificate_text.specs.CertificateTexts.{line_of_column, lines_text}
 use Rattle.certificate_text.proofs.columns.put_columns.Given as goal
 
 abbrev pub invariant-loop-k : goal.invariant-loop-k
-invariant-loop-k l = l.text.items ≡ l.initial.text.items ++ lines_text (map (line_of_column l.state) (take l.k (zip l.places l.blocks)))
+invariant-loop-k l = l.table.text ≡ l.initial.table.text ++ lines_text (map (line_of_column l.state) (take l.k (zip l.places l.blocks)))

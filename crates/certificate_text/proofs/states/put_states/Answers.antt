@@ -13,7 +13,7 @@ returns-in_default c =
     let long = length-enumerate_from 0 ids in
     let many = length-map c.args.ids.now (λ (id : Bor (List ℕ)). id.now) in
     c.loop-k.invariant
-    ∙ ap (λ ps. c.args.text.now.items ++ lines_text (flat_map (lines_of_state c.args.places.now) ps)) (pairs_done (enumerate_from 0 ids) c.args.proofs.now c.loop-k.k (omega (arith, past, long, many)))
+    ∙ ap (λ ps. c.args.table.now.text ++ lines_text (flat_map (lines_of_state c.args.places.now) ps)) (pairs_done (enumerate_from 0 ids) c.args.proofs.now c.loop-k.k (omega (arith, past, long, many)))
 
 pub loop-k-preserved : goal.loop-k-preserved
 loop-k-preserved c =
@@ -33,12 +33,12 @@ loop-k-preserved c =
     let number : 0 + k ≡ k = omega arith in
     let first : (k, id.now) ≡ get_or numbered k (k, id.now) = sym (get_or-enumerate_from 0 ids k (k, id.now) here ∙ (λ i. (number i, sym named i))) in
     let pairs = zip numbered proofs in
-    lines_joined c.args.text.now.items c.loop-k.text.items c.put_state.new.text.items (flat_map lines (take k pairs)) (lines ((k, id.now), proof)) c.loop-k.invariant c.in_ok-put_state.ensures
-    ∙ ap (λ ls. c.args.text.now.items ++ lines_text ls)
+    lines_joined c.args.table.now.text c.loop-k.table.text c.put_state.new.table.text (flat_map lines (take k pairs)) (lines ((k, id.now), proof)) c.loop-k.invariant c.in_ok-put_state.ensures
+    ∙ ap (λ ls. c.args.table.now.text ++ lines_text ls)
     (sym (flat_more lines pairs k ((k, id.now), proof) (pairs_more numbered proofs k (k, id.now) proof (omega (arith, here, long)) c.loop-k-test.true first c.index-proofs-k.is)))
 
 pub returns : goal.returns
 returns c =
     let ids : List (List ℕ) = map (λ (id : Bor (List ℕ)). id.now) c.args.ids.now in
     c.loop-k.invariant
-    ∙ ap (λ ps. c.args.text.now.items ++ lines_text (flat_map (lines_of_state c.args.places.now) ps)) (pairs_done (enumerate_from 0 ids) c.args.proofs.now c.loop-k.k (omega (arith, c.loop-k-test.false)))
+    ∙ ap (λ ps. c.args.table.now.text ++ lines_text (flat_map (lines_of_state c.args.places.now) ps)) (pairs_done (enumerate_from 0 ids) c.args.proofs.now c.loop-k.k (omega (arith, c.loop-k-test.false)))

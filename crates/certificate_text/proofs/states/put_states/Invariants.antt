@@ -5,6 +5,6 @@ use Rattle.certificate_text.proofs.states.put_states.Given as goal
 
 abbrev pub invariant-loop-k : goal.invariant-loop-k
 invariant-loop-k l =
-    l.text.items
-    ≡ l.initial.text.items
+    l.table.text
+    ≡ l.initial.table.text
     ++ lines_text (flat_map (lines_of_state l.places) (take l.k (zip (enumerate_from 0 (map (λ (id : Bor (List ℕ)). id.now) l.ids)) l.proofs)))

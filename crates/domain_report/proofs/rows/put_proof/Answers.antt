@@ -1,11 +1,10 @@
-use Rattle.std.proofs.Common.{◌≡◌, ℕ, ℤ, Bool, List, [], ◌∷◌, ◌++◌, map, ap, ◌∙◌, append_assoc}
+use Rattle.std.proofs.Common.{◌≡◌, ℤ, List, [], ◌∷◌, ◌++◌, map, ap, ◌∙◌}
 use Rattle.std.specs.Fmt.{signed_decimal}
-use Rattle.fb_certificate.specs.RunRows.{is_opposite}
 use Rattle.fb_certificate.specs.Lists.{inner_list, outer_list}
-use Rattle.domain_report.specs.DomainTexts.{labels, sides, coefficients, citations, citation, fate_word}
+use Rattle.domain_report.specs.DomainTexts.{sides, coefficients, citations, citation, fate_word}
 use Rattle.domain_report.specs.Standings.{sides_of, standing_word, standing_citation}
-use Rattle.domain_report.proofs.Parts.{four_parts}
-use Rattle.domain_report.proofs.rows.row_fields.Goals as goal
+use Rattle.domain_report.proofs.Parts.{two_parts, three_parts}
+use Rattle.domain_report.proofs.rows.put_proof.Goals as goal
 
 pub returns : goal.returns
 returns c = λ certificate count are.
@@ -25,18 +24,13 @@ returns c = λ certificate count are.
     c.standing_of-inner.ensures.citation ∙ (λ i. citation (inner_listed i) (inner_cites i) number) in
     let outer_by : standing_citation outer ≡ citation (outer_list.holds row.class) certificate.outer number =
     c.standing_of-outer.ensures.citation ∙ (λ i. citation (outer_listed i) (outer_cites i) number) in
-    let named = c.put_labels.new.fields in
+    let before = c.args.fields.now in
     let sided = c.put_sides.new.fields in
     let weighed = c.put_wholes.new.fields in
     let cited : c.put_citation-2.new.fields ≡ weighed ++ citations certificate number row =
-    c.in_ok-put_citation-2.ensures
-    ∙ ap (λ (f : List (List ℕ)). f ++ standing_citation outer ∷ []) c.in_ok-put_citation.ensures
-    ∙ append_assoc weighed (standing_citation inner ∷ []) (standing_citation outer ∷ [])
+    two_parts (standing_citation inner ∷ []) (standing_citation outer ∷ []) weighed c.put_citation.new.fields c.put_citation-2.new.fields c.in_ok-put_citation.ensures c.in_ok-put_citation-2.ensures
     ∙ (λ i. weighed ++ (inner_by i ∷ outer_by i ∷ [])) in
-    four_parts (labels c.args.contingencies.now number c.args.element.now (is_opposite c.args.direction)) (sides certificate number row) (coefficients row) (citations certificate number row)
-    c.new-fields.result named sided weighed c.put_citation-2.new.fields
-    c.new-fields.ensures.empty
-    (c.in_ok-put_labels.ensures ∙ ap (λ (o : Bool). c.new-fields.result ++ labels c.args.contingencies.now number c.args.element.now o) c.is_opposite-opposite.ensures)
-    (c.in_ok-put_sides.ensures ∙ (λ i. named ++ sides_of (inner_word i) (outer_word i) row))
+    three_parts (sides certificate number row) (coefficients row) (citations certificate number row) before sided weighed c.put_citation-2.new.fields
+    (c.in_ok-put_sides.ensures ∙ (λ i. before ++ sides_of (inner_word i) (outer_word i) row))
     (c.in_ok-put_wholes.ensures ∙ ap (λ (a : List ℤ). sided ++ map signed_decimal a) c.as_slice.ensures.items)
     cited
