@@ -1,2 +1,4 @@
 pub mod StateLaws
 pub mod Lists
+pub mod Zips
+pub mod RowsByState

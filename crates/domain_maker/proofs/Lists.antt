@@ -1,9 +1,8 @@
 -- The bounds of the Core zones are a box, and the rows are few.
-use Rattle.std.proofs.Common.{◌≡◌, ℕ, suc, ◌+◌, ◌*◌, ◌<◌, ◌≤◌, ◌^◌, List, [], ◌∷◌, ◌++◌, length, arith, length-append}
-use Rattle.std.specs.Prelude.{All, Option, Some, None, Bool, true, false, ℤ}
+use Rattle.std.proofs.Common.{◌<◌, ◌^◌, List, length, arith}
+use Rattle.std.specs.Prelude.{All}
 use Rattle.std.proofs.lemmas.List.{length-map}
 use Rattle.fb_types.specs.Domain.{AreBounds, IsHalfOver}
-use Rattle.fb_types.specs.declared.crac.Element.{Element}
 use Rattle.multiplier_search.specs.Found.{IsBox}
 use Rattle.multiplier_search.proofs.HoldsPoint.{box-of-point}
 use Rattle.run_settings.specs.Laws.{core_bounds}

@@ -6,16 +6,21 @@ ghost use Rattle.fb_certificate.specs.Thin.{IsThinDomain};
 ghost use Rattle.fb_certificate.specs.Valid.{IsValid};
 ghost use Rattle.fb_certificate.specs.Whole.{IsWhole};
 
+mod domain;
 mod removed;
+mod row;
+mod state_rows;
 mod states;
 
 use crate::removed::removed;
 use crate::states::prove_states;
+pub use domain::{Domain, make_domain};
 use fan_out::Gate;
 use fb_certificate::{Certificate, Inputs, make_rows};
 use row_removal::DomainList;
 use std::alloc::{AllocError, Global};
 use std::thread::Threads;
+use valid_domains::row_ranges;
 
 /// The certificate of the inputs, with the rows that follow from others removed from each of its two lists.
 ///
@@ -39,8 +44,9 @@ pub fn make_certificate<R: Threads + Sync, G: Gate + Sync>(
 {
     let states = prove_states(rt, alloc, inputs, gate, workers)?;
     let rows = make_rows(alloc, inputs, &states)?;
-    let inner = removed(alloc, inputs, &states, &rows, DomainList::Inner)?;
-    let outer = removed(alloc, inputs, &states, &rows, DomainList::Outer)?;
+    row_ranges(inputs, &states, &rows);
+    let inner = removed(alloc, inputs, &rows, DomainList::Inner)?;
+    let outer = removed(alloc, inputs, &rows, DomainList::Outer)?;
     Ok(Certificate {
         version: 1,
         states,

@@ -15,7 +15,10 @@ use std::alloc::{AllocError, Global};
 use std::thread::Threads;
 
 /// What the proofs of all grid states share, from the base state.
-fn groundwork_of<'a>(alloc: Global, inputs: &'a Inputs) -> Result<Groundwork<'a>, AllocError>
+pub(crate) fn groundwork_of<'a>(
+    alloc: Global,
+    inputs: &'a Inputs,
+) -> Result<Groundwork<'a>, AllocError>
     requires { IsWhole inputs.now }
 {
     let states = inputs.states.as_slice();

@@ -7,5 +7,6 @@ pub mod GridSame
 pub mod NoUsage
 pub mod OneAnswer
 pub mod OutputPieces
+pub mod PrintedTexts
 pub mod PutCauses
 pub mod SameInputs

@@ -4,6 +4,7 @@ pub mod Kinds
 pub mod NamedDocuments
 pub mod Papers
 pub mod Printed
+pub mod Printing
 pub mod Reading
 pub mod Seen
 pub mod Statuses

@@ -13,14 +13,12 @@ use crate::inputs::put_together;
 use crate::paper::Paper;
 use crate::work::Work;
 use command_words::Request;
-use domain_maker::make_certificate;
 use fan_out::Gate;
 use fb_base::Shelf;
 use fb_certificate::Inputs;
 use fb_types::Items;
 use std::alloc::Global;
 use std::thread::Threads;
-use valid_domains::sound;
 
 /// Reads the documents that the request names, computes the domain, and writes what is printed of it.
 pub fn domain_work<R: Threads + Sync, H: Shelf, G: Gate + Sync>(
@@ -53,12 +51,7 @@ fn compute<R: Threads + Sync, G: Gate + Sync>(
     requires workers { (1 ≤ workers) × (workers ≤ 64) }
     ensures { computes paper inputs.now result }
 {
-    let certificate = match make_certificate(rt, alloc, inputs, gate, workers) {
-        Ok(certificate) => certificate,
-        Err(e) => return Err(Fault::Memory(e)),
-    };
-    sound(inputs, &certificate);
-    match paper.write(alloc, inputs, &certificate) {
+    match paper.print(rt, alloc, inputs, gate, workers) {
         Ok(text) => Ok(Work {
             text: Items::from_vec(text),
             verdict: None,

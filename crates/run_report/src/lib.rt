@@ -1,30 +1,31 @@
 //! The report of a run, one line of JSON, and the summary of a generated case.
 #![tactic(auto)]
 
-ghost use Rattle.std.specs.Prelude.{◌≡◌, IfOk, string_bytes};
-ghost use Rattle.fb_certificate.specs.Valid.{IsValid};
+ghost use Rattle.std.specs.Prelude.{◌≡◌, IfOk, length, string_bytes};
+ghost use Rattle.run_settings.specs.Laws.{core_bounds};
+ghost use Rattle.fb_certificate.specs.CracRows.{crac_rows};
+ghost use Rattle.fb_certificate.specs.Lists.{AreCites, inner_list, outer_list};
 ghost use Rattle.fb_certificate.specs.Whole.{IsWhole};
 ghost use Rattle.run_report.specs.Lines.{classes_text, gap_text, inner_text, line_text, outer_text};
-ghost use Rattle.run_report.specs.ReportTexts.{IsReport};
+ghost use Rattle.run_report.specs.ReportTexts.{report_text};
 
 mod case_summary;
 mod json;
 mod notes;
 mod rows;
-mod spans;
 mod summary;
 
 pub use case_summary::write_summary;
-use fb_certificate::{Certificate, Inputs};
+use fb_certificate::{Certificate, Inputs, RowSpans};
 use json::array_text;
 use notes::notes;
 use rows::row_texts;
-use spans::row_spans;
 use std::alloc::{AllocError, Global};
 use summary::{Summary, summary_of};
 
-/// The report of a run, from a certificate that is valid for its inputs: one line of compact JSON, an object whose
-/// members stand in the order of their names.
+/// The report of a run, from the rows and the two lists of a certificate that is valid for its inputs, and the spans of
+/// the rows: one line of compact JSON, an object whose members stand in the order of their names. No proof of a state is
+/// read.
 ///
 /// `rows` has an object for each row of the CRAC, element by element, DIRECT before OPPOSITE: its number from 1, the id
 /// of its element, its direction, its class, its flows and its margin, each as the two ends of a span in whole watts,
@@ -35,13 +36,16 @@ pub fn write_report(
     alloc: Global,
     inputs: &Inputs,
     certificate: &Certificate,
+    spans: &[RowSpans],
 ) -> Result<Vec<u8>, AllocError>
     requires whole { IsWhole inputs.now }
-    requires valid { IsValid inputs.now certificate.now }
-    ensures { IfOk result (λ text. IsReport inputs.now certificate.now text.items) }
+    requires rows { length certificate.now.rows ≡ length (crac_rows inputs.now.crac.elements) }
+    requires spans { length spans.now ≡ length (crac_rows inputs.now.crac.elements) }
+    requires inner { AreCites inner_list (core_bounds inputs.now.settings.zones) certificate.now.rows certificate.now.inner }
+    requires outer { AreCites outer_list (core_bounds inputs.now.settings.zones) certificate.now.rows certificate.now.outer }
+    ensures { IfOk result (λ text. text.items ≡ report_text inputs.now certificate.now spans.now) }
 {
-    let spans = row_spans(alloc, inputs, certificate)?;
-    let rows = row_texts(alloc, inputs, certificate, spans.as_slice())?;
+    let rows = row_texts(alloc, inputs, certificate, spans)?;
     let rows = array_text(alloc, rows.as_slice())?;
     let notes = notes(alloc, inputs.grid.branches.as_slice())?;
     let notes = array_text(alloc, notes.as_slice())?;

@@ -6,7 +6,6 @@ ghost use Rattle.serde_json.specs.Written.{compact_text};
 ghost use Rattle.domain_report.specs.DomainTexts.{class_word, direction_word};
 ghost use Rattle.fb_certificate.specs.CracRows.{crac_rows};
 ghost use Rattle.fb_certificate.specs.RunRows.{is_opposite};
-ghost use Rattle.fb_certificate.specs.Valid.{IsValid};
 ghost use Rattle.fb_certificate.specs.Whole.{IsWhole};
 ghost use Rattle.run_report.specs.Lines.{labels_text, margins_text, row_text, with_text, without_text};
 ghost use Rattle.run_report.specs.ReportTexts.{ends, gap_of, row_trees, watts};
@@ -28,7 +27,7 @@ pub(crate) fn row_texts(
     spans: &[RowSpans],
 ) -> Result<Items<Text>, AllocError>
     requires whole { IsWhole inputs.now }
-    requires valid { IsValid inputs.now certificate.now }
+    requires rows { length certificate.now.rows ≡ length (crac_rows inputs.now.crac.elements) }
     requires spans { length spans.now ≡ length (crac_rows inputs.now.crac.elements) }
     ensures { IfOk result (λ texts. texts ≡ map compact_text
         (row_trees (crac_rows inputs.now.crac.elements) certificate.now.rows spans.now)) }

@@ -3,9 +3,8 @@
 ghost use Rattle.std.specs.Prelude.{◌≡◌};
 ghost use Rattle.std.specs.Int.{int_max};
 ghost use Rattle.std.specs.List.{fold};
-ghost use Rattle.fb_certificate.specs.Lists.{inner_list, outer_list};
-ghost use Rattle.fb_certificate.specs.Valid.{IsValid};
-ghost use Rattle.fb_certificate.specs.Whole.{IsWhole};
+ghost use Rattle.run_settings.specs.Laws.{core_bounds};
+ghost use Rattle.fb_certificate.specs.Lists.{AreCites, inner_list, outer_list};
 ghost use Rattle.run_report.specs.ReportTexts.{count_where, gap_of, greatest_gap, is_below, is_doubtful, kept_count, removed_count};
 
 use cnec_selection::Class;
@@ -28,10 +27,10 @@ pub(crate) struct Summary {
     pub outer_removed: u64,
 }
 
-/// The counts of a valid certificate, and its greatest gap.
+/// The counts of a certificate whose removed rows follow from kept ones, and its greatest gap.
 pub(crate) fn summary_of(inputs: &Inputs, certificate: &Certificate) -> Summary
-    requires whole { IsWhole inputs.now }
-    requires valid { IsValid inputs.now certificate.now }
+    requires inner { AreCites inner_list (core_bounds inputs.now.settings.zones) certificate.now.rows certificate.now.inner }
+    requires outer { AreCites outer_list (core_bounds inputs.now.settings.zones) certificate.now.rows certificate.now.outer }
     ensures below { result.below ≡ count_where is_below certificate.now.rows }
     ensures doubtful { result.doubtful ≡ count_where is_doubtful certificate.now.rows }
     ensures greatest_gap { result.greatest_gap ≡ greatest_gap certificate.now.rows }

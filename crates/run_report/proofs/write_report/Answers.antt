@@ -1,48 +1,33 @@
-use Rattle.std.proofs.Common.{◌≡◌, ◌++◌, [], ◌∷◌, List, length, map, ap, sym, ◌∙◌, string_bytes, rules}
+use Rattle.std.proofs.Common.{◌≡◌, ◌++◌, [], ◌∷◌, List, map, ap, sym, ◌∙◌, string_bytes, rules}
 use Rattle.serde_json.specs.Data.{array}
 use Rattle.serde_json.specs.View.{items_of}
 use Rattle.serde_json.specs.Written.{compact_text}
-use Rattle.cnec_rows.specs.declared.types.RowSpans.{RowSpans}
 use Rattle.fb_types.specs.declared.grid.Branch.{Branch}
 use Rattle.fb_certificate.specs.CracRows.{crac_rows}
-use Rattle.fb_certificate.proofs.WholeLaws.{zip_length}
 use Rattle.run_report.specs.Lines.{array_text, line_text}
-use Rattle.run_report.specs.ReportTexts.{IsSpansOf, notes, row_trees}
+use Rattle.run_report.specs.ReportTexts.{notes, row_trees}
 use Rattle.run_report.proofs.Texts.{array_joined, line_is, line_tree}
 use Rattle.run_report.proofs.write_report.Goals as goal
-
-pub row_texts-requires-clause-spans : goal.row_texts-requires-clause-spans
-row_texts-requires-clause-spans c =
-    ap length c.as_slice.ensures.items
-    ∙ sym (zip_length (IsSpansOf c.args.inputs.now c.args.certificate.now) (crac_rows c.args.inputs.now.crac.elements)
-    c.in_ok-spans.spans c.in_ok-spans.ensures)
 
 pub returns : goal.returns
 returns c =
     let inputs = c.args.inputs.now in
     let certificate = c.args.certificate.now in
-    let spans = c.in_ok-spans.spans in
+    let spans = c.args.spans.now in
     let ids = notes inputs.grid.branches in
     let trees = row_trees (crac_rows inputs.crac.elements) certificate.rows spans in
     let rows : c.as_str-2.result.now ≡ compact_text (array (items_of trees)) =
     c.as_str-2.ensures.value ∙ c.in_ok-rows-2.ensures
-    ∙ ap array_text (c.as_slice-2.ensures.items ∙ c.in_ok-rows.ensures
-    ∙ ap (λ (ss : List RowSpans). map compact_text (row_trees (crac_rows inputs.crac.elements) certificate.rows ss))
-    c.as_slice.ensures.items) ∙ sym (array_joined trees) in
+    ∙ ap array_text (c.as_slice.ensures.items ∙ c.in_ok-rows.ensures) ∙ sym (array_joined trees) in
     let said : c.as_str.result.now ≡ compact_text (array (items_of ids)) =
     c.as_str.ensures.value ∙ c.in_ok-notes-2.ensures
-    ∙ ap array_text (c.as_slice-4.ensures.items ∙ c.in_ok-notes.ensures
-    ∙ ap (λ (bs : List Branch). map compact_text (notes bs)) c.as_slice-3.ensures.items) ∙ sym (array_joined ids) in
+    ∙ ap array_text (c.as_slice-3.ensures.items ∙ c.in_ok-notes.ensures
+    ∙ ap (λ (bs : List Branch). map compact_text (notes bs)) c.as_slice-2.ensures.items) ∙ sym (array_joined ids) in
     let bytes : c.into_bytes.result.items ≡ string_bytes c.in_ok-text.text = search rules in
     let s = c.summary_of-summary.result in
     let h = c.summary_of-summary.ensures in
-    record {
-      spans = spans;
-      are = c.in_ok-spans.ensures;
-      same =
-          bytes ∙ c.in_ok-text.ensures ∙ (λ i. line_text s (said i) (rows i))
-          ∙ line_is s (array (items_of ids)) (array (items_of trees))
-          ∙ (λ i. compact_text (line_tree (h.below i) (h.doubtful i) (h.greatest_gap i) (h.inner_kept i)
-          (h.inner_removed i) (array (items_of ids)) (h.outer_kept i) (h.outer_removed i) (array (items_of trees)))
-          ++ 10 ∷ []);
-    }
+    bytes ∙ c.in_ok-text.ensures ∙ (λ i. line_text s (said i) (rows i))
+    ∙ line_is s (array (items_of ids)) (array (items_of trees))
+    ∙ (λ i. compact_text (line_tree (h.below i) (h.doubtful i) (h.greatest_gap i) (h.inner_kept i)
+    (h.inner_removed i) (array (items_of ids)) (h.outer_kept i) (h.outer_removed i) (array (items_of trees)))
+    ++ 10 ∷ [])

@@ -1,4 +1,4 @@
-use Rattle.std.proofs.Common.{ℕ, ◌<◌, List, length, get_or, sym, ap, subst, ◌∙◌, arith}
+use Rattle.std.proofs.Common.{◌<◌, List, length, get_or, sym, ap, subst, ◌∙◌, arith}
 use Rattle.grid_state.specs.GridState.{GridState}
 use Rattle.grid_laplacian.specs.Ranges.{IsOfGrid, IsInRange}
 use Rattle.fb_certificate.specs.declared.types.Inputs.{Inputs}

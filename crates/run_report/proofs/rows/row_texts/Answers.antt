@@ -4,10 +4,8 @@ use Rattle.fb_types.specs.declared.crac.Element.{Element}
 use Rattle.cnec_rows.specs.declared.types.RowProof.{RowProof}
 use Rattle.fb_certificate.specs.CracRows.{crac_rows}
 use Rattle.fb_certificate.specs.RunRows.{is_opposite, run_row}
-use Rattle.fb_certificate.specs.Valid.{IsRowOf}
 use Rattle.fb_certificate.specs.declared.types.RunRow.{RunRow}
 use Rattle.fb_certificate.proofs.RunLaws.{few_rows}
-use Rattle.fb_certificate.proofs.WholeLaws.{zip_length}
 use Rattle.domain_report.proofs.RunRecords.{element_within, no_row, read_as}
 use Rattle.run_report.proofs.RowTrees.{text_added, texts_done}
 use Rattle.run_report.proofs.Texts.{row_is}
@@ -50,7 +48,7 @@ bounds-numbers-place c =
       ap length (c.as_slice-row-items.ensures.value ∙ c.in_ok-rows.ensures),
       ap length c.as_slice-numbers.ensures.items,
       length-map rows (run_row inputs),
-      zip_length (IsRowOf inputs certificate.states) rows certificate.rows c.requires.valid.rows,
+      c.requires.rows,
     )
 
 pub loop-place-preserved : goal.loop-place-preserved
@@ -60,7 +58,7 @@ loop-place-preserved c =
     let rows = crac_rows inputs.crac.elements in
     let k = c.loop-place.place in
     let same = c.as_slice-row-items.ensures.value ∙ c.in_ok-rows.ensures in
-    let long = sym (zip_length (IsRowOf inputs certificate.states) rows certificate.rows c.requires.valid.rows) in
+    let long = c.requires.rows in
     let row : RunRow = get_or c.as_slice-row-items.result.now k no_row in
     let numbers = c.index-numbers-place.result in
     text_added inputs certificate.rows c.args.spans.now long c.requires.spans k row numbers c.index-spans-place.result
@@ -83,6 +81,6 @@ returns c =
     let rows = crac_rows inputs.crac.elements in
     let same = c.as_slice-row-items.ensures.value ∙ c.in_ok-rows.ensures in
     texts_done inputs certificate.rows c.args.spans.now
-    (sym (zip_length (IsRowOf inputs certificate.states) rows certificate.rows c.requires.valid.rows))
+    c.requires.rows
     c.requires.spans c.loop-place.place c.loop-place.texts
     (omega (arith, c.loop-place-test.false, ap length same)) c.loop-place.invariant

@@ -27,7 +27,7 @@ overflow_sub-result c =
       same,
       inner_counted rows,
       kept_counted inner_list (core_bounds c.args.inputs.now.settings.zones) certificate.rows certificate.inner
-          c.requires.valid.inner,
+          c.requires.inner,
     )
 
 pub overflow_sub-result-2 : goal.overflow_sub-result-2
@@ -44,7 +44,7 @@ overflow_sub-result-2 c =
       inner_counted rows,
       outer_counted rows,
       kept_counted outer_list (core_bounds c.args.inputs.now.settings.zones) certificate.rows certificate.outer
-          c.requires.valid.outer,
+          c.requires.outer,
     )
 
 pub returns-clause-inner_kept : goal.returns-clause-inner_kept
@@ -59,7 +59,7 @@ returns-clause-inner_kept c =
       same,
       inner_counted rows,
       kept_counted inner_list (core_bounds c.args.inputs.now.settings.zones) certificate.rows certificate.inner
-          c.requires.valid.inner,
+          c.requires.inner,
     )
 
 pub returns-clause-outer_kept : goal.returns-clause-outer_kept
@@ -76,5 +76,5 @@ returns-clause-outer_kept c =
       inner_counted rows,
       outer_counted rows,
       kept_counted outer_list (core_bounds c.args.inputs.now.settings.zones) certificate.rows certificate.outer
-          c.requires.valid.outer,
+          c.requires.outer,
     )
