@@ -247,7 +247,7 @@ const LIMITS: [(&str, i64, i64); 12] = [
 fn cracs_are_refused(rt: HostRuntime) -> Result<(), AllocError> {
     for (document, line) in FAULTS {
         let mut shelf = shelf_of(rt.alloc(), NAMED, document)?;
-        let answer = call(&rt, &DOMAIN, &mut shelf)?;
+        let answer = call(&rt, DOMAIN, &mut shelf)?;
         let line = format!(in rt.alloc(); "{line}\n")?;
         assert_eq!(rt; answer.outcome.status, 7, "{document}");
         assert_eq!(rt; answer.err.bytes(), line.as_bytes(), "{document}");
@@ -293,7 +293,7 @@ fn thresholds_make_limits(rt: HostRuntime) -> Result<(), AllocError> {
             "{{\"type\":\"CRAC\",\"flowCnecs\":[{{\"optimized\":true,\"id\":\"e\",\"instant\":\"preventive\",\"networkElementId\":\"BBE1AA1  NNL1AA2  1\",{members}}}]}}"
         )?;
         let mut shelf = shelf_of(rt.alloc(), TRANSFORMER, crac.as_str())?;
-        let answer = call(&rt, &DOMAIN, &mut shelf)?;
+        let answer = call(&rt, DOMAIN, &mut shelf)?;
         let text = records(rt.alloc(), direct, opposite)?;
         assert_eq!(rt; answer.out.bytes(), text.as_bytes(), "{members}");
     }

@@ -303,7 +303,7 @@ const NETS: [(&str, &[u8], &[u8]); 7] = [
 fn net<R: Threads + Sync + AllocGlobal>(rt: &R, file: &[u8]) -> Result<Answer, AllocError> {
     let mut shelf = MemShelf::new(rt.alloc());
     shelf.add("grid.uct", file)?;
-    call(rt, &["net", "--grid", "grid.uct"], &mut shelf)
+    call(rt, "net --grid grid.uct", &mut shelf)
 }
 
 #[test]

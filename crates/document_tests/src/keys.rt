@@ -186,7 +186,7 @@ fn answer<R: Threads + Sync + AllocGlobal>(rt: &R, document: &str) -> Result<Ans
     shelf.add("crac.json", CRAC.as_bytes())?;
     shelf.add("settings.json", SETTINGS.as_bytes())?;
     shelf.add("glsk.json", document.as_bytes())?;
-    call(rt, &DOMAIN, &mut shelf)
+    call(rt, DOMAIN, &mut shelf)
 }
 
 #[test]

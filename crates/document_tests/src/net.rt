@@ -108,7 +108,7 @@ fn is_wanted(answer: &Answer, want: Want) -> bool {
 fn grids_are_answered(rt: HostRuntime) -> Result<(), AllocError> {
     for (name, parts, want) in &CASES {
         let mut shelf = shelf_of(rt.alloc(), parts)?;
-        let answer = call(&rt, &["net", "--grid", "grid.uct"], &mut shelf)?;
+        let answer = call(&rt, "net --grid grid.uct", &mut shelf)?;
         assert!(rt; is_wanted(&answer, *want), "{name}");
     }
     Ok(())
@@ -116,17 +116,17 @@ fn grids_are_answered(rt: HostRuntime) -> Result<(), AllocError> {
 
 #[test]
 fn words_of_net_are_not_mixed_with_others(rt: HostRuntime) -> Result<(), Fail> {
-    let lists: [&[&str]; 6] = [
-        &["net"],
-        &["net", "--rows", "grid.uct"],
-        &["rows", "--grid", "grid.uct"],
-        &["net", "--grid"],
-        &["net", "--grid", "-grid.uct"],
-        &["net", "--grid", "grid.uct", "--rows", "grid.uct"],
+    let lines: [&str; 6] = [
+        "net",
+        "net --rows grid.uct",
+        "rows --grid grid.uct",
+        "net --grid",
+        "net --grid -grid.uct",
+        "net --grid grid.uct --rows grid.uct",
     ];
-    for texts in lists {
+    for line in lines {
         let mut shelf = shelf_of(rt.alloc(), &[HEAD])?;
-        let answer = call(&rt, texts, &mut shelf)?;
+        let answer = call(&rt, line, &mut shelf)?;
         assert_eq!(rt; answer.outcome.status, 2);
         assert!(rt; answer.out.bytes().is_empty());
     }
@@ -137,7 +137,7 @@ fn words_of_net_are_not_mixed_with_others(rt: HostRuntime) -> Result<(), Fail> {
 fn a_grid_that_cannot_be_read_is_told(rt: HostRuntime) -> Result<(), Fail> {
     let mut shelf = shelf_of(rt.alloc(), &[HEAD])?;
     shelf.fail_at(1)?;
-    let answer = call(&rt, &["net", "--grid", "grid.uct"], &mut shelf)?;
+    let answer = call(&rt, "net --grid grid.uct", &mut shelf)?;
     assert_eq!(rt; answer.outcome.status, 3);
     assert!(rt;
         matches!(
@@ -157,7 +157,7 @@ fn an_output_that_fails_at_a_net_is_told(rt: HostRuntime) -> Result<(), Fail> {
     let mut out = MemSink::new(rt.alloc(), 100)?;
     out.fail_at(1, 6)?;
     let err = MemSink::new(rt.alloc(), 100)?;
-    let answer = call_into(&rt, &["net", "--grid", "grid.uct"], &mut shelf, out, err)?;
+    let answer = call_into(&rt, "net --grid grid.uct", &mut shelf, out, err)?;
     assert_eq!(rt; answer.outcome.status, 15);
     assert!(rt; answer.out.bytes() == b"code,n".as_slice());
     Ok(())

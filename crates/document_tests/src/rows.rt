@@ -294,34 +294,34 @@ fn a_document_past_the_limit_is_too_long(rt: HostRuntime) -> Result<(), Fail> {
 
 #[test]
 fn other_words_are_refused(rt: HostRuntime) -> Result<(), Fail> {
-    let lists: [&[&str]; 22] = [
-        &[],
-        &[""],
-        &["-h"],
-        &["rows"],
-        &["row", "--rows", "rows.txt"],
-        &["--rows", "rows.txt"],
-        &["rows", "--rows"],
-        &["rows", "rows.txt"],
-        &["rows", "--rows", "-rows.txt"],
-        &["rows", "--rows", "rows.txt", "x"],
-        &["rows", "--row", "rows.txt"],
-        &["ROWS", "--rows", "rows.txt"],
-        &["rows", "--rows", "rows.txt", "--rows", "rows.txt"],
-        &["rows", "--rows=rows.txt", "--rows", "rows.txt"],
-        &["rows", "--rows", "rows.txt", "--help"],
-        &["rows", "--rows", "rows.txt", "--workers", "1"],
-        &["rows", "--=rows.txt"],
-        &["rows", "--rows", "--", "rows.txt"],
-        &["--", "rows", "--rows", "rows.txt"],
-        &["certify", "--rows", "rows.txt"],
-        &["check", "--rows", "rows.txt"],
-        &["selftest", "--case", "1", "--nodes", "47"],
+    let lines: [&str; 22] = [
+        "",
+        " ",
+        "-h",
+        "rows",
+        "row --rows rows.txt",
+        "--rows rows.txt",
+        "rows --rows",
+        "rows rows.txt",
+        "rows --rows -rows.txt",
+        "rows --rows rows.txt x",
+        "rows --row rows.txt",
+        "ROWS --rows rows.txt",
+        "rows --rows rows.txt --rows rows.txt",
+        "rows --rows=rows.txt --rows rows.txt",
+        "rows --rows rows.txt --help",
+        "rows --rows rows.txt --workers 1",
+        "rows --=rows.txt",
+        "rows --rows -- rows.txt",
+        "-- rows --rows rows.txt",
+        "certify --rows rows.txt",
+        "check --rows rows.txt",
+        "selftest --case 1 --nodes 47",
     ];
-    for texts in lists {
+    for line in lines {
         let mut shelf = MemShelf::new(rt.alloc());
         shelf.fail_at(1)?;
-        let answer = call(&rt, texts, &mut shelf)?;
+        let answer = call(&rt, line, &mut shelf)?;
         assert_eq!(rt; answer.outcome.status, 2);
         assert!(rt; matches!(answer.outcome.fault, Some(Fault::Usage)));
         assert!(rt; answer.out.bytes().is_empty());
@@ -333,20 +333,20 @@ fn other_words_are_refused(rt: HostRuntime) -> Result<(), Fail> {
 #[test]
 fn words_are_taken_by_their_forms(rt: HostRuntime) -> Result<(), Fail> {
     let document = changed(rt.alloc(), Before(1, ""))?;
-    let calls: [(&[&str], &str); 8] = [
-        (&["rows", "--rows", "rows.txt"], "rows.txt"),
-        (&["rows", "--rows=rows.txt"], "rows.txt"),
-        (&["--rows", "rows.txt", "rows"], "rows.txt"),
-        (&["--rows=rows.txt", "--", "rows"], "rows.txt"),
-        (&["rows", "--rows=-rows.txt"], "-rows.txt"),
-        (&["rows", "--rows=a=b.txt"], "a=b.txt"),
-        (&["rows", "--rows", "a=b.txt"], "a=b.txt"),
-        (&["rows", "--rows", "-"], "-"),
+    let calls: [(&str, &str); 8] = [
+        ("rows --rows rows.txt", "rows.txt"),
+        ("rows --rows=rows.txt", "rows.txt"),
+        ("--rows rows.txt rows", "rows.txt"),
+        ("--rows=rows.txt -- rows", "rows.txt"),
+        ("rows --rows=-rows.txt", "-rows.txt"),
+        ("rows --rows=a=b.txt", "a=b.txt"),
+        ("rows --rows a=b.txt", "a=b.txt"),
+        ("rows --rows -", "-"),
     ];
-    for (texts, name) in calls {
+    for (line, name) in calls {
         let mut shelf = MemShelf::new(rt.alloc());
         shelf.add(name, document.as_bytes())?;
-        let answer = call(&rt, texts, &mut shelf)?;
+        let answer = call(&rt, line, &mut shelf)?;
         assert_eq!(rt; answer.outcome.status, 0);
         assert_eq!(rt; answer.out.bytes(), b"yes\n".as_slice());
     }
@@ -368,7 +368,8 @@ fn a_shelf_that_fails_is_told(rt: HostRuntime) -> Result<(), Fail> {
         if failing {
             shelf.fail_at(1)?;
         }
-        let answer = call(&rt, &["rows", "--rows", name], &mut shelf)?;
+        let line = format!(in rt.alloc(); "rows --rows {name}")?;
+        let answer = call(&rt, line.as_str(), &mut shelf)?;
         assert_eq!(rt; answer.outcome.status, 3);
         assert!(rt;
             matches!(
@@ -383,7 +384,7 @@ fn a_shelf_that_fails_is_told(rt: HostRuntime) -> Result<(), Fail> {
     }
     let mut shelf = shelf_of(rt.alloc())?;
     shelf.fail_at(2)?;
-    let answer = call(&rt, &["rows", "--rows", "rows.txt"], &mut shelf)?;
+    let answer = call(&rt, "rows --rows rows.txt", &mut shelf)?;
     assert_eq!(rt; answer.outcome.status, 0);
     Ok(())
 }
@@ -395,7 +396,7 @@ fn an_output_that_fails_is_told(rt: HostRuntime) -> Result<(), Fail> {
         let mut sink = MemSink::new(rt.alloc(), 100)?;
         sink.fail_at(1, taken)?;
         let err = MemSink::new(rt.alloc(), 100)?;
-        let answer = call_into(&rt, &["rows", "--rows", "rows.txt"], &mut shelf, sink, err)?;
+        let answer = call_into(&rt, "rows --rows rows.txt", &mut shelf, sink, err)?;
         assert_eq!(rt; answer.outcome.status, 15);
         assert!(rt; matches!(answer.outcome.fault, Some(Fault::WriteFault)));
         assert!(rt; answer.out.bytes() == out.as_bytes());
@@ -410,7 +411,7 @@ fn an_error_output_that_fails_changes_nothing(rt: HostRuntime) -> Result<(), Fai
     let out = MemSink::new(rt.alloc(), 100)?;
     let mut err = MemSink::new(rt.alloc(), 100)?;
     err.fail_at(1, 6)?;
-    let answer = call_into(&rt, &["rows", "--rows", "rows.txt"], &mut shelf, out, err)?;
+    let answer = call_into(&rt, "rows --rows rows.txt", &mut shelf, out, err)?;
     assert_eq!(rt; answer.outcome.status, 3);
     assert!(rt; answer.err.bytes() == b"cannot".as_slice());
     Ok(())

@@ -312,7 +312,7 @@ const DECIMALS: [(&str, &str, i64); 8] = [
 /// What `domain` answers where a document stands in the place of one of two nodes.
 fn answer<R: Threads + Sync + AllocGlobal>(
     rt: &R,
-    words: &[&str],
+    words: &str,
     name: &str,
     document: &str,
 ) -> Result<Answer, AllocError> {
@@ -328,7 +328,7 @@ fn answer<R: Threads + Sync + AllocGlobal>(
 /// The first document of a table that is not answered with its fault line.
 fn first_wrong<R: Threads + Sync + AllocGlobal>(
     rt: &R,
-    words: &[&str],
+    words: &str,
     name: &str,
     table: &[(&str, &str)],
 ) -> Result<String, AllocError> {
@@ -344,11 +344,11 @@ fn first_wrong<R: Threads + Sync + AllocGlobal>(
 
 #[test]
 fn documents_are_refused(rt: HostRuntime) -> Result<(), AllocError> {
-    let wrong = first_wrong(&rt, &DOMAIN, "settings.json", &FAULTS)?;
+    let wrong = first_wrong(&rt, DOMAIN, "settings.json", &FAULTS)?;
     assert_eq!(rt; wrong.as_str(), "");
-    let wrong = first_wrong(&rt, &DOMAIN, "crac.json", &TEXTS)?;
+    let wrong = first_wrong(&rt, DOMAIN, "crac.json", &TEXTS)?;
     assert_eq!(rt; wrong.as_str(), "");
-    let wrong = first_wrong(&rt, &REDUCED, "reductions.csv", &REFUSED)?;
+    let wrong = first_wrong(&rt, REDUCED, "reductions.csv", &REFUSED)?;
     assert_eq!(rt; wrong.as_str(), "");
     Ok(())
 }
@@ -359,7 +359,7 @@ fn reductions_are_taken_off(rt: HostRuntime) -> Result<(), AllocError> {
         let document = format!(in rt.alloc();
             "element,direction,cva,iva\nc1,DIRECT,{cva},{iva}\n"
         )?;
-        let answer = answer(&rt, &REDUCED, "reductions.csv", document.as_str())?;
+        let answer = answer(&rt, REDUCED, "reductions.csv", document.as_str())?;
         let record = format!(in rt.alloc();
             "\n1,c1,preventive,,DIRECT,CERTAIN,KEPT,KEPT,{left},{left},0,0,-1000000000000,,\n"
         )?;
@@ -374,7 +374,7 @@ fn reductions_are_taken_off(rt: HostRuntime) -> Result<(), AllocError> {
 #[test]
 fn settings_are_taken(rt: HostRuntime) -> Result<(), AllocError> {
     for (document, end) in TAKEN {
-        let answer = answer(&rt, &DOMAIN, "settings.json", document)?;
+        let answer = answer(&rt, DOMAIN, "settings.json", document)?;
         assert!(rt; answer.out.bytes().ends_with(end.as_bytes()), "{document}");
     }
     Ok(())

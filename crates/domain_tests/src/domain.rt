@@ -487,7 +487,7 @@ fn tables_are_printed(rt: HostRuntime) -> Result<(), AllocError> {
             case.settings,
             case.keys,
         )?;
-        let answer = call(&rt, &DOMAIN, &mut shelf)?;
+        let answer = call(&rt, DOMAIN, &mut shelf)?;
         let is_table = is_table(rt.alloc(), &answer, case)?;
         let name = case.name;
         assert!(rt; is_table, "{name}");
@@ -506,7 +506,7 @@ fn rows_that_follow_are_removed(rt: HostRuntime) -> Result<(), AllocError> {
             case.settings,
             case.keys,
         )?;
-        let answer = call(&rt, &DOMAIN, &mut shelf)?;
+        let answer = call(&rt, DOMAIN, &mut shelf)?;
         let is_table = is_table(rt.alloc(), &answer, case)?;
         let name = case.name;
         assert!(rt; is_table, "{name}");
@@ -521,7 +521,7 @@ fn reductions_lower_a_row(rt: HostRuntime) -> Result<(), AllocError> {
         "reductions.csv",
         b"element,direction,cva,iva\nc1,OPPOSITE,100,20.5\n",
     )?;
-    let answer = call(&rt, &REDUCED, &mut shelf)?;
+    let answer = call(&rt, REDUCED, &mut shelf)?;
     let table = joined(
         rt.alloc(),
         &[
@@ -543,7 +543,7 @@ fn split_grids_are_refused(rt: HostRuntime) -> Result<(), AllocError> {
         TWO,
         KEYS_OF_TWO,
     )?;
-    let answer = call(&rt, &DOMAIN, &mut shelf)?;
+    let answer = call(&rt, DOMAIN, &mut shelf)?;
     assert_eq!(rt; answer.outcome.status, 12);
     assert_eq!(rt;
         answer.err.bytes(),
@@ -574,83 +574,33 @@ fn numbers_past_range_are_refused(rt: HostRuntime) -> Result<(), AllocError> {
         TWO,
         KEYS_OF_TWO,
     )?;
-    let answer = call(&rt, &DOMAIN, &mut shelf)?;
+    let answer = call(&rt, DOMAIN, &mut shelf)?;
     assert_eq!(rt; answer.outcome.status, 13);
     assert_eq!(rt;
         answer.err.bytes(),
         b"numbers past range in state 0\n".as_slice()
     );
     let mut shelf = shelf_of(rt.alloc(), &[STRONG], "", &ON_STRONG, TWO, KEYS_OF_TWO)?;
-    let answer = call(&rt, &DOMAIN, &mut shelf)?;
+    let answer = call(&rt, DOMAIN, &mut shelf)?;
     assert_eq!(rt; answer.outcome.status, 0);
     Ok(())
 }
 
 #[test]
 fn other_words_than_those_of_domain_are_refused(rt: HostRuntime) -> Result<(), Fail> {
-    let lists: [&[&str]; 5] = [
-        &["domain"],
-        &["domain", "--grid", "grid.uct"],
-        &[
-            "domain",
-            "--grid",
-            "g",
-            "--grid",
-            "g",
-            "--crac",
-            "c",
-            "--glsk",
-            "k",
-            "--settings",
-            "s",
-        ],
-        &[
-            "domain",
-            "--grid",
-            "g",
-            "--crac",
-            "c",
-            "--glsk",
-            "k",
-            "--settings",
-            "s",
-            "--workers",
-            "65",
-        ],
-        &[
-            "domain",
-            "--grid",
-            "g",
-            "--crac",
-            "c",
-            "--glsk",
-            "k",
-            "--settings",
-            "-s",
-        ],
+    let lines: [&str; 5] = [
+        "domain",
+        "domain --grid grid.uct",
+        "domain --grid g --grid g --crac c --glsk k --settings s",
+        "domain --grid g --crac c --glsk k --settings s --workers 65",
+        "domain --grid g --crac c --glsk k --settings -s",
     ];
-    for words in lists {
+    for line in lines {
         let mut shelf = MemShelf::new(rt.alloc());
-        let answer = call(&rt, words, &mut shelf)?;
+        let answer = call(&rt, line, &mut shelf)?;
         assert!(rt; matches!(answer.outcome.fault, Some(Fault::Usage)));
     }
     Ok(())
-}
-
-/// The words of `domain`, with these workers.
-fn with_workers<'a>(workers: &'a str) -> [&'a str; 10] {
-    [
-        "domain",
-        workers,
-        "--grid",
-        "grid.uct",
-        "--crac",
-        "crac.json",
-        "--glsk",
-        "glsk.json",
-        "--settings",
-        "settings.json",
-    ]
 }
 
 #[test]
@@ -664,13 +614,13 @@ fn workers_are_from_1_to_64(rt: HostRuntime) -> Result<(), Fail> {
         ("--workers=-1", 2),
         ("--workers=+1", 2),
         ("--workers=1e1", 2),
-        ("--workers=1 ", 2),
+        ("--workers=1\t", 2),
         ("--workers=", 2),
     ];
     for (workers, status) in table {
         let mut shelf = two_nodes(rt.alloc())?;
-        let words = with_workers(workers);
-        let answer = call(&rt, &words, &mut shelf)?;
+        let line = format!(in rt.alloc(); "{DOMAIN} {workers}")?;
+        let answer = call(&rt, line.as_str(), &mut shelf)?;
         assert_eq!(rt; answer.outcome.status, status);
     }
     Ok(())

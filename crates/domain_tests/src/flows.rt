@@ -134,7 +134,7 @@ fn flows_are_driven(rt: HostRuntime) -> Result<(), AllocError> {
             "##N\n##ZBE\nBBE1AA1  BE1          0 3\nBBE2AA1  BE2          0 0\n##L\nBBE1AA1  BBE2AA1  1 0 0.0000 {reactance}\n##T\nBBE1AA1  BBE2AA1  2 0 380.0 380.0              {reactance}\n##R\nBBE1AA1  BBE2AA1  2                     {regulation}\n"
         )?;
         let mut shelf = shelf_of(rt.alloc(), grid.as_str(), CRAC_OF_ONE, ONE, KEYS_OF_ONE)?;
-        let answer = call(&rt, &DOMAIN, &mut shelf)?;
+        let answer = call(&rt, DOMAIN, &mut shelf)?;
         let records = format!(in rt.alloc();
             "\n1,c1,preventive,,DIRECT,CERTAIN,REMOVED,REMOVED,{direct},-250000000000,-250000000000000000000,-250000000000000000000\n2,c1,preventive,,OPPOSITE,CERTAIN,REMOVED,REMOVED,{opposite},250000000000,250000000000000000000,250000000000000000000\n"
         )?;
@@ -199,7 +199,7 @@ fn margin<R: Threads + Sync + AllocGlobal>(
     let mut shelf = shelf_of(alloc, grid.as_str(), CRAC_OF_TWO, TWO, KEYS_OF_TWO)?;
     let document = format!(in alloc; "element,direction,cva,iva\nc1,DIRECT,{reductions}\n")?;
     shelf.add("reductions.csv", document.as_bytes())?;
-    call(rt, &REDUCED, &mut shelf)
+    call(rt, REDUCED, &mut shelf)
 }
 
 #[test]

@@ -21,7 +21,7 @@ const REPORT_OF_TWO: &str =
 #[test]
 fn certificates_are_printed(rt: HostRuntime) -> Result<(), AllocError> {
     let mut shelf = two_nodes(rt.alloc())?;
-    let answer = call(&rt, &CERTIFY, &mut shelf)?;
+    let answer = call(&rt, CERTIFY, &mut shelf)?;
     let mut is_printed = false;
     for barrier in &BARRIERS {
         let text = format!(in rt.alloc(); "{BEFORE_BARRIER}{barrier}{BEHIND_BARRIER}")?;
@@ -37,7 +37,7 @@ fn certificates_are_printed(rt: HostRuntime) -> Result<(), AllocError> {
 #[test]
 fn reports_are_printed(rt: HostRuntime) -> Result<(), AllocError> {
     let mut shelf = two_nodes(rt.alloc())?;
-    let answer = call(&rt, &REPORT, &mut shelf)?;
+    let answer = call(&rt, REPORT, &mut shelf)?;
     assert_eq!(rt; answer.out.bytes(), REPORT_OF_TWO.as_bytes());
     assert_eq!(rt; answer.outcome.status, 0);
     Ok(())
@@ -47,7 +47,7 @@ fn reports_are_printed(rt: HostRuntime) -> Result<(), AllocError> {
 #[test]
 fn reports_tell_the_flow_of_a_phase_shifter(rt: HostRuntime) -> Result<(), AllocError> {
     let mut shelf = shifted(rt.alloc())?;
-    let answer = call(&rt, &REPORT, &mut shelf)?;
+    let answer = call(&rt, REPORT, &mut shelf)?;
     assert_eq!(rt; answer.outcome.status, 0);
     let report = str::from_utf8(answer.out.bytes()).unwrap_or("");
     let of_line =
@@ -63,9 +63,9 @@ fn reports_tell_the_flow_of_a_phase_shifter(rt: HostRuntime) -> Result<(), Alloc
 #[test]
 fn printed_certificates_are_accepted(rt: HostRuntime) -> Result<(), AllocError> {
     let mut shelf = after_france(rt.alloc())?;
-    let printed = call(&rt, &CERTIFY, &mut shelf)?;
+    let printed = call(&rt, CERTIFY, &mut shelf)?;
     shelf.add("certificate.csv", printed.out.bytes())?;
-    let answer = call(&rt, &CHECK, &mut shelf)?;
+    let answer = call(&rt, CHECK, &mut shelf)?;
     assert_eq!(rt; answer.outcome.status, 0);
     assert_eq!(rt; answer.out.bytes(), b"yes\n".as_slice());
     Ok(())

@@ -6,7 +6,7 @@ use fan_out::Gate;
 use fb_base::{MemShelf, MemSink};
 use std::alloc::{AllocError, Global};
 use std::sync::atomic::{AtomicBool, Ordering};
-use test_calls::calls::{CERTIFY, CHECK, call, call_at, call_into};
+use test_calls::calls::{CERTIFY, DOMAIN, call, call_at, call_into};
 
 /// How often a worker looks whether the other one has begun.
 const MOST_LOOKS: u32 = 200_000_000;
@@ -42,47 +42,22 @@ impl Gate for HoldingGate {
     }
 }
 
-/// The words with two workers.
-const TWO_MAKE: [&str; 11] = [
-    "domain",
-    "--grid",
-    "grid.uct",
-    "--crac",
-    "crac.json",
-    "--glsk",
-    "glsk.json",
-    "--settings",
-    "settings.json",
-    "--workers",
-    "2",
-];
-
-const TWO_CHECK: [&str; 13] = [
-    "check",
-    "--grid",
-    "grid.uct",
-    "--crac",
-    "crac.json",
-    "--glsk",
-    "glsk.json",
-    "--settings",
-    "settings.json",
-    "--certificate",
-    "certificate.csv",
-    "--workers",
-    "2",
+/// The words of `domain` and of `check` with two workers.
+const WITH_TWO: [&str; 2] = [
+    "domain --grid grid.uct --crac crac.json --glsk glsk.json --settings settings.json --workers 2",
+    "check --grid grid.uct --crac crac.json --glsk glsk.json --settings settings.json --certificate certificate.csv --workers 2",
 ];
 
 #[test]
 fn two_workers_work_at_once(rt: HostRuntime) -> Result<(), AllocError> {
     let mut shelf = after_france(rt.alloc())?;
-    let printed = call(&rt, &CERTIFY, &mut shelf)?;
+    let printed = call(&rt, CERTIFY, &mut shelf)?;
     shelf.add("certificate.csv", printed.out.bytes())?;
-    for words in [TWO_MAKE.as_slice(), TWO_CHECK.as_slice()] {
+    for line in WITH_TWO {
         let gate = HoldingGate::new();
         let out = MemSink::new(rt.alloc(), 10_000)?;
         let err = MemSink::new(rt.alloc(), 100)?;
-        let answer = call_at(&rt, words, &mut shelf, out, err, &gate)?;
+        let answer = call_at(&rt, line, &mut shelf, out, err, &gate)?;
         assert_eq!(rt; answer.outcome.status, 0);
         assert!(rt; !gate.gave_up.load(Ordering::SeqCst));
     }
@@ -99,35 +74,19 @@ fn shelf_of(alloc: Global, case: &Case) -> Result<MemShelf, AllocError> {
     Ok(shelf)
 }
 
-/// The words of `domain` with so many workers.
-fn with_workers<'a>(workers: &'a str) -> [&'a str; 11] {
-    [
-        "domain",
-        "--grid",
-        "grid.uct",
-        "--crac",
-        "crac.json",
-        "--glsk",
-        "glsk.json",
-        "--settings",
-        "settings.json",
-        "--workers",
-        workers,
-    ]
-}
-
 #[test]
 fn any_number_of_workers_gives_the_same_bytes(rt: HostRuntime) -> Result<(), AllocError> {
     let case = make_case(rt.alloc(), 7, 300)?;
     let mut shelf = shelf_of(rt.alloc(), &case)?;
     let out = MemSink::new(rt.alloc(), 1_000_000)?;
     let err = MemSink::new(rt.alloc(), 100)?;
-    let one = call_into(&rt, &with_workers("1"), &mut shelf, out, err)?;
+    let one = call_into(&rt, DOMAIN, &mut shelf, out, err)?;
     assert_eq!(rt; one.outcome.status, 0);
-    for workers in ["2", "7"] {
+    for workers in ["1", "2", "7"] {
+        let line = format!(in rt.alloc(); "{DOMAIN} --workers {workers}")?;
         let out = MemSink::new(rt.alloc(), 1_000_000)?;
         let err = MemSink::new(rt.alloc(), 100)?;
-        let answer = call_into(&rt, &with_workers(workers), &mut shelf, out, err)?;
+        let answer = call_into(&rt, line.as_str(), &mut shelf, out, err)?;
         assert!(rt; answer.out.bytes() == one.out.bytes());
     }
     Ok(())
@@ -136,8 +95,7 @@ fn any_number_of_workers_gives_the_same_bytes(rt: HostRuntime) -> Result<(), All
 #[test]
 fn a_generated_case_is_tested(rt: HostRuntime) -> Result<(), AllocError> {
     let mut shelf = MemShelf::new(rt.alloc());
-    let words = ["selftest", "--case", "7", "--nodes", "300"];
-    let answer = call(&rt, &words, &mut shelf)?;
+    let answer = call(&rt, "selftest --case 7 --nodes 300", &mut shelf)?;
     assert_eq!(rt; answer.outcome.status, 0);
     let out = answer.out.bytes();
     let first = b"case 7 nodes 300\nrows 400\nbelow 332\n".as_slice();

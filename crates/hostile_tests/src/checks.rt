@@ -110,7 +110,7 @@ fn certificates_are_judged(rt: HostRuntime) -> Result<(), AllocError> {
         let text = with_change(rt.alloc(), number, change)?;
         let mut shelf = two_nodes(rt.alloc())?;
         shelf.add("certificate.csv", text.as_bytes())?;
-        let answer = call(&rt, &CHECK, &mut shelf)?;
+        let answer = call(&rt, CHECK, &mut shelf)?;
         let status = if verdict == "yes\n" { 0 } else { 1 };
         assert_eq!(rt; answer.out.bytes(), verdict.as_bytes(), "{change}");
         assert_eq!(rt; answer.outcome.status, status, "{change}");
@@ -124,7 +124,7 @@ fn records_that_are_none_are_refused(rt: HostRuntime) -> Result<(), AllocError> 
         let text = with_change(rt.alloc(), number, change)?;
         let mut shelf = two_nodes(rt.alloc())?;
         shelf.add("certificate.csv", text.as_bytes())?;
-        let answer = call(&rt, &CHECK, &mut shelf)?;
+        let answer = call(&rt, CHECK, &mut shelf)?;
         let line = format!(in rt.alloc(); "certificate row {record} cannot be read\n")?;
         assert_eq!(rt; answer.outcome.status, 14);
         assert_eq!(rt; answer.err.bytes(), line.as_bytes(), "{change}");

@@ -149,7 +149,7 @@ fn hostile_documents_are_refused(rt: HostRuntime) -> Result<(), AllocError> {
         let text = changed(rt.alloc(), document, change)?;
         let mut shelf = two_nodes(rt.alloc())?;
         shelf.add(name, text.as_bytes())?;
-        let answer = call(&rt, &REDUCED, &mut shelf)?;
+        let answer = call(&rt, REDUCED, &mut shelf)?;
         assert_eq!(rt; answer.err.bytes(), line.as_bytes(), "{text}");
         assert_eq!(rt; answer.outcome.status, status, "{text}");
         assert!(rt; answer.out.bytes().is_empty(), "{text}");
@@ -175,7 +175,7 @@ fn earlier_documents_are_refused_first(rt: HostRuntime) -> Result<(), AllocError
             let (name, _document) = DOCUMENTS[place];
             shelf.add(name, b"x")?;
         }
-        let answer = call(&rt, &REDUCED, &mut shelf)?;
+        let answer = call(&rt, REDUCED, &mut shelf)?;
         assert_eq!(rt; answer.err.bytes(), NO_DOCUMENTS[first].as_bytes());
     }
     Ok(())
@@ -200,7 +200,7 @@ fn first_bad_cut<R: Threads + Sync + AllocGlobal>(
     for length in 0..document.len() {
         let mut shelf = two_nodes(rt.alloc())?;
         shelf.add(name, &document[..length])?;
-        let answer = call(rt, &DOMAIN, &mut shelf)?;
+        let answer = call(rt, DOMAIN, &mut shelf)?;
         if !is_in_order(&answer) {
             return Ok(Some(length));
         }

@@ -75,7 +75,7 @@ const FIRST_OF_TABLE: &str =
 fn a_long_chain(rt: HostRuntime) -> Result<(), AllocError> {
     let grid = chain(rt.alloc(), 2_000)?;
     let mut shelf = on_branch(rt.alloc(), grid.as_str(), "CN09991  CN10001  1")?;
-    let answer = call(&rt, &DOMAIN, &mut shelf)?;
+    let answer = call(&rt, DOMAIN, &mut shelf)?;
     assert_eq!(rt; answer.outcome.status, 0);
     let table =
         "row,element,instant,contingency,direction,class,inner,outer,r_in,r_out,gap,a:BE,a:NL,inner_by,outer_by\n1,c1,preventive,,DIRECT,CERTAIN,KEPT,KEPT,400000000,400000000,0,0,-1000000000000,,\n2,c1,preventive,,OPPOSITE,CERTAIN,KEPT,KEPT,400000000,400000000,0,0,1000000000000,,\n";
@@ -90,7 +90,7 @@ fn the_largest_ring(rt: HostRuntime) -> Result<(), AllocError> {
     let mut grid = chain(rt.alloc(), 4_096)?;
     push_line(rt.alloc(), &mut grid, 4_095, 0)?;
     let mut shelf = on_branch(rt.alloc(), grid.as_str(), "CN20471  CN20481  1")?;
-    let answer = call(&rt, &DOMAIN, &mut shelf)?;
+    let answer = call(&rt, DOMAIN, &mut shelf)?;
     assert_eq!(rt; answer.outcome.status, 0);
     assert!(rt; answer.out.bytes().starts_with(FIRST_OF_TABLE.as_bytes()));
     Ok(())
@@ -104,7 +104,7 @@ const RING: &str =
 #[test]
 fn strong_lines_beside_weak_ones(rt: HostRuntime) -> Result<(), AllocError> {
     let mut shelf = on_branch(rt.alloc(), RING, "BBE2AA1  NNL1AA1  1")?;
-    let answer = call(&rt, &DOMAIN, &mut shelf)?;
+    let answer = call(&rt, DOMAIN, &mut shelf)?;
     assert_eq!(rt; answer.outcome.status, 0);
     assert!(rt; answer.out.bytes().starts_with(FIRST_OF_TABLE.as_bytes()));
     Ok(())

@@ -19,7 +19,7 @@ fn a_shelf_fails_at_each_fetch(rt: HostRuntime) -> Result<(), AllocError> {
     for fetch in 0..5 {
         let mut shelf = two_nodes(rt.alloc())?;
         shelf.fail_at(fetch as u64 + 1)?;
-        let answer = call(&rt, &REDUCED, &mut shelf)?;
+        let answer = call(&rt, REDUCED, &mut shelf)?;
         assert_eq!(rt; answer.outcome.status, 3);
         assert_eq!(rt; answer.err.bytes(), FETCHES[fetch].as_bytes());
         assert!(rt; answer.out.bytes().is_empty());
@@ -30,7 +30,7 @@ fn a_shelf_fails_at_each_fetch(rt: HostRuntime) -> Result<(), AllocError> {
 /// The fetch of one document more than the words name would fail.
 #[test]
 fn no_other_document_is_fetched(rt: HostRuntime) -> Result<(), AllocError> {
-    let calls: [&[&str]; 3] = [&["net", "--grid", "grid.uct"], &DOMAIN, &REDUCED];
+    let calls: [&str; 3] = ["net --grid grid.uct", DOMAIN, REDUCED];
     let one_more: [u64; 3] = [2, 5, 6];
     for place in 0..3 {
         let mut shelf = two_nodes(rt.alloc())?;
@@ -76,7 +76,7 @@ const PUTS: [(u64, u64, Option<u64>, usize, &str); 6] = [
 fn an_output_fails(rt: HostRuntime) -> Result<(), AllocError> {
     let crac = crac_of_many(rt.alloc())?;
     let mut shelf = shelf_of(rt.alloc(), GRID, crac.as_str())?;
-    let whole = call(&rt, &DOMAIN, &mut shelf)?;
+    let whole = call(&rt, DOMAIN, &mut shelf)?;
     assert_eq!(rt; whole.outcome.status, 0);
     for (put, taken, told, length, line) in PUTS {
         let mut out = MemSink::new(rt.alloc(), 10_000)?;
@@ -85,7 +85,7 @@ fn an_output_fails(rt: HostRuntime) -> Result<(), AllocError> {
         if let Some(count) = told {
             err.fail_at(1, count)?;
         }
-        let answer = call_into(&rt, &DOMAIN, &mut shelf, out, err)?;
+        let answer = call_into(&rt, DOMAIN, &mut shelf, out, err)?;
         assert_eq!(rt; answer.outcome.status, 15);
         assert_eq!(rt; answer.out.bytes().len(), length);
         assert!(rt; whole.out.bytes().starts_with(answer.out.bytes()));

@@ -7,71 +7,22 @@ use std::alloc::{AllocError, Global};
 use std::thread::Threads;
 
 /// The words of `domain`, without reductions and with them.
-pub const DOMAIN: [&str; 9] = [
-    "domain",
-    "--grid",
-    "grid.uct",
-    "--crac",
-    "crac.json",
-    "--glsk",
-    "glsk.json",
-    "--settings",
-    "settings.json",
-];
+pub const DOMAIN: &str =
+    "domain --grid grid.uct --crac crac.json --glsk glsk.json --settings settings.json";
+
+pub const REDUCED: &str =
+    "domain --grid grid.uct --crac crac.json --glsk glsk.json --settings settings.json --reductions reductions.csv";
 
 /// The words of `certify` and of `report`.
-pub const CERTIFY: [&str; 9] = [
-    "certify",
-    "--grid",
-    "grid.uct",
-    "--crac",
-    "crac.json",
-    "--glsk",
-    "glsk.json",
-    "--settings",
-    "settings.json",
-];
+pub const CERTIFY: &str =
+    "certify --grid grid.uct --crac crac.json --glsk glsk.json --settings settings.json";
 
-pub const REPORT: [&str; 9] = [
-    "report",
-    "--grid",
-    "grid.uct",
-    "--crac",
-    "crac.json",
-    "--glsk",
-    "glsk.json",
-    "--settings",
-    "settings.json",
-];
+pub const REPORT: &str =
+    "report --grid grid.uct --crac crac.json --glsk glsk.json --settings settings.json";
 
 /// The words of `check`.
-pub const CHECK: [&str; 11] = [
-    "check",
-    "--grid",
-    "grid.uct",
-    "--crac",
-    "crac.json",
-    "--glsk",
-    "glsk.json",
-    "--settings",
-    "settings.json",
-    "--certificate",
-    "certificate.csv",
-];
-
-pub const REDUCED: [&str; 11] = [
-    "domain",
-    "--grid",
-    "grid.uct",
-    "--crac",
-    "crac.json",
-    "--glsk",
-    "glsk.json",
-    "--settings",
-    "settings.json",
-    "--reductions",
-    "reductions.csv",
-];
+pub const CHECK: &str =
+    "check --grid grid.uct --crac crac.json --glsk glsk.json --settings settings.json --certificate certificate.csv";
 
 /// What a call answered and put.
 #[derive(Drop)]
@@ -81,11 +32,14 @@ pub struct Answer {
     pub err: MemSink,
 }
 
-/// The words as the program is given them.
-pub fn words(alloc: Global, texts: &[&str]) -> Result<Vec<String>, AllocError> {
+/// The words of a line, which stand between blanks, as the program is given them. An empty line has none.
+fn words_of(alloc: Global, line: &str) -> Result<Vec<String>, AllocError> {
     let mut words = Vec::new(alloc);
-    for text in texts {
-        words.push(String::from_str(alloc, text)?)?;
+    if line.is_empty() {
+        return Ok(words);
+    }
+    for word in line.split(' ') {
+        words.push(String::from_str(alloc, word)?)?;
     }
     Ok(words)
 }
@@ -97,42 +51,42 @@ pub fn judge<R: Threads + Sync + AllocGlobal>(
 ) -> Result<Answer, AllocError> {
     let mut shelf = MemShelf::new(rt.alloc());
     shelf.add("rows.txt", document)?;
-    call(rt, &["rows", "--rows", "rows.txt"], &mut shelf)
+    call(rt, "rows --rows rows.txt", &mut shelf)
 }
 
-/// A call with sinks that take everything.
+/// A call with the words of a line, and with sinks that take everything.
 pub fn call<R: Threads + Sync + AllocGlobal>(
     rt: &R,
-    texts: &[&str],
+    line: &str,
     shelf: &mut MemShelf,
 ) -> Result<Answer, AllocError> {
     let out = MemSink::new(rt.alloc(), 10_000)?;
     let err = MemSink::new(rt.alloc(), 10_000)?;
-    call_into(rt, texts, shelf, out, err)
+    call_into(rt, line, shelf, out, err)
 }
 
 /// A call with these sinks.
 pub fn call_into<R: Threads + Sync + AllocGlobal>(
     rt: &R,
-    texts: &[&str],
+    line: &str,
     shelf: &mut MemShelf,
     out: MemSink,
     err: MemSink,
 ) -> Result<Answer, AllocError> {
-    call_at(rt, texts, shelf, out, err, &OpenGate)
+    call_at(rt, line, shelf, out, err, &OpenGate)
 }
 
 /// A call with these sinks, whose workers pass this gate.
 pub fn call_at<R: Threads + Sync + AllocGlobal, G: Gate + Sync>(
     rt: &R,
-    texts: &[&str],
+    line: &str,
     shelf: &mut MemShelf,
     mut out: MemSink,
     mut err: MemSink,
     gate: &G,
 ) -> Result<Answer, AllocError> {
     let alloc = rt.alloc();
-    let words = words(alloc, texts)?;
+    let words = words_of(alloc, line)?;
     let outcome = fbcc(rt, alloc, words.as_slice(), shelf, &mut out, &mut err, gate);
     Ok(Answer { outcome, out, err })
 }
