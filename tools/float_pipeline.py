@@ -4,23 +4,31 @@
 usage: tools/float_pipeline.py FOLDER [--times N] [--rows-at-most N]
 
 FOLDER has grid.uct, crac.json, settings.json and glsk.json of such cases as tools/make_case and tools/limit_documents.py make: lines
-alone, in operation, limits in megawatts. There are two ways to the numbers of the states:
+alone, in operation, limits in megawatts. There are three ways to the numbers of the states:
 
 - a factor for each state: the susceptance matrix of the state is factored (SuperLU, in symmetric mode) and solved for the reference and
   for each zone's key;
 - changes of rank one: the base state alone is factored, and the flows after an outage come from those before it by distribution factors
-  (Sherman-Morrison-Woodbury).
+  (Sherman-Morrison-Woodbury), on the lines of the elements alone;
+- changes of rank one, with states: the base state alone is factored too, and the same change is made to the angles of all nodes, for the
+  reference and for each zone's key; the flows are read off the angles of each state.
+
+Both ways with changes solve the factors of the base state for 16 outages at once. An outage of several lines changes the base state by as
+many ranks. Whether an outage splits the grid is not looked for: none does in such cases.
 
 Rows are those that `domain` has, in both directions, with the same formulas, and without any bound on their errors. The first way then
 removes the redundant rows, one linear program (HiGHS) for each row over those that are left; not where there are more than N rows, 2,000
-by default. Times are the least of N runs, 3 by default, in seconds of one processor; reading the documents is not counted.
+by default. Times are the least of N runs, 3 by default, in seconds of one processor; reading the documents is not counted. The script
+fails where the ways have not the same rows, but for small differences of their numbers.
 """
 
 import argparse
 import dataclasses
+import itertools
 import json
 import os
 import resource
+import sys
 import time
 
 for name in ("OMP_NUM_THREADS", "OPENBLAS_NUM_THREADS", "MKL_NUM_THREADS"):
@@ -32,6 +40,10 @@ import scipy.sparse
 import scipy.sparse.linalg
 
 LEVELS = {"0": 750, "1": 380, "2": 220, "3": 150, "4": 120, "5": 110, "6": 70, "7": 27, "8": 330, "9": 500}
+# How many outages the factors of the base state are solved for at once.
+OUTAGES_AT_ONCE = 16
+# By how much the rows of two ways may differ: right sides in MW, and factors.
+RIGHT_SIDES_WITHIN, FACTORS_WITHIN = 1e-6, 1e-9
 
 
 @dataclasses.dataclass
@@ -197,21 +209,47 @@ def flows_with_a_factor_each(grid, zones, elements):
     return flows
 
 
+def transfers_along(grid, lines):
+    """For each line one megawatt that is fed in at its start and taken out at its end."""
+    sides, columns = numpy.zeros((len(grid.codes), len(lines))), numpy.arange(len(lines))
+    sides[grid.starts[lines], columns] += 1
+    sides[grid.ends[lines], columns] -= 1
+    return sides
+
+
+def outages_solved(grid, factors, free, elements):
+    """For each state after an outage the lines that are out, its elements, and the angles before it of transfers along these lines."""
+    after = [(numpy.array(outage), members) for outage, members in zip(elements.outages, by_state(elements)) if outage]
+    for at in range(0, len(after), OUTAGES_AT_ONCE):
+        some = after[at : at + OUTAGES_AT_ONCE]
+        angles = solved(factors, free, transfers_along(grid, numpy.concatenate([out for out, _ in some])))
+        ends = numpy.cumsum([len(out) for out, _ in some])
+        for (out, members), own in zip(some, numpy.split(angles, ends[:-1], axis=1)):
+            yield out, members, own
+
+
+def passed_on(grid, out, transferred, base):
+    """The transfers along the lines that go out by which what they carried passes on to the others."""
+    return numpy.linalg.solve(numpy.eye(len(out)) - flows_on(grid, out, transferred), flows_on(grid, out, base))
+
+
 def flows_with_changes_of_rank_one(grid, zones, elements):
     factors, free = factored(grid, grid.susceptances)
     base = solved(factors, free, right_sides(grid, zones))
     flows = flows_on(grid, elements.lines, base)
-    for outage, members in zip(elements.outages, by_state(elements)):
-        if not outage:
-            continue
-        out = numpy.array(outage)
-        transfers = numpy.zeros((len(grid.codes), len(out)))
-        transfers[grid.starts[out], numpy.arange(len(out))] += 1
-        transfers[grid.ends[out], numpy.arange(len(out))] -= 1
-        angles = solved(factors, free, transfers)
-        # What the lines that go out carried passes on to the others.
-        passed = numpy.linalg.solve(numpy.eye(len(out)) - flows_on(grid, out, angles), flows_on(grid, out, base))
-        flows[members] += flows_on(grid, elements.lines[members], angles) @ passed
+    for out, members, transferred in outages_solved(grid, factors, free, elements):
+        flows[members] += flows_on(grid, elements.lines[members], transferred) @ passed_on(grid, out, transferred, base)
+        flows[members[numpy.isin(elements.lines[members], out)]] = 0
+    return flows
+
+
+def flows_with_changes_of_all_angles(grid, zones, elements):
+    factors, free = factored(grid, grid.susceptances)
+    base = solved(factors, free, right_sides(grid, zones))
+    flows = flows_on(grid, elements.lines, base)
+    for out, members, transferred in outages_solved(grid, factors, free, elements):
+        angles = base + transferred @ passed_on(grid, out, transferred, base)
+        flows[members] = flows_on(grid, elements.lines[members], angles)
         flows[members[numpy.isin(elements.lines[members], out)]] = 0
     return flows
 
@@ -255,7 +293,25 @@ def timed(times, call, *arguments):
     return found, min(taken)
 
 
-def both_ways(folder, times, rows_at_most):
+WAYS = {
+    "factor each": flows_with_a_factor_each,
+    "rank one": flows_with_changes_of_rank_one,
+    "rank one, with states": flows_with_changes_of_all_angles,
+}
+
+
+def greatest_differences(rows):
+    """The greatest differences of factors and of right sides between the rows of any two ways. Ends the script where they are not small."""
+    if len({len(available) for _, available in rows.values()}) > 1:
+        sys.exit(f"rows: {', '.join(f'{way}: {len(available)}' for way, (_, available) in rows.items())}")
+    pairs = list(itertools.combinations(rows.values(), 2))
+    factors, available = (max(float(abs(one[at] - other[at]).max(initial=0)) for one, other in pairs) for at in (0, 1))
+    if not (factors <= FACTORS_WITHIN and available <= RIGHT_SIDES_WITHIN):
+        sys.exit(f"the rows of two ways differ by {factors} in a factor and by {available} MW in a right side")
+    return {"greatest difference of factors": factors, "greatest difference of right sides, MW": available}
+
+
+def all_ways(folder, times, rows_at_most):
     def document(name):
         with open(f"{folder}/{name}", "rb") as file:
             return json.load(file)
@@ -263,11 +319,12 @@ def both_ways(folder, times, rows_at_most):
     grid = read_grid(f"{folder}/grid.uct")
     zones = read_zones(grid, document("settings.json"), document("glsk.json"))
     elements = read_elements(grid, document("crac.json"))
-    own, factor_each = timed(times, lambda: rows_of(zones, elements, flows_with_a_factor_each(grid, zones, elements)))
-    other, rank_one = timed(times, lambda: rows_of(zones, elements, flows_with_changes_of_rank_one(grid, zones, elements)))
-    found = {"states": len(elements.outages), "rows": len(own[1]), "factor each": factor_each, "rank one": rank_one}
-    if len(own[1]) == len(other[1]):
-        found["greatest difference of right sides, MW"] = float(abs(own[1] - other[1]).max(initial=0))
+    rows, found = {}, {"states": len(elements.outages)}
+    for way, flows in WAYS.items():
+        rows[way], found[way] = timed(times, lambda: rows_of(zones, elements, flows(grid, zones, elements)))
+    found |= greatest_differences(rows)
+    own = rows["factor each"]
+    found["rows"] = len(own[1])
     if len(own[1]) <= rows_at_most:
         kept, found["removal"] = timed(times, kept_rows, zones, *own)
         found["kept"] = int(kept.sum())
@@ -283,7 +340,7 @@ def main():
     words.add_argument("--times", type=int, metavar="N", default=3)
     words.add_argument("--rows-at-most", type=int, metavar="N", default=2000)
     options = words.parse_args()
-    print(json.dumps(both_ways(options.folder, options.times, options.rows_at_most)))
+    print(json.dumps(all_ways(options.folder, options.times, options.rows_at_most)))
 
 
 main()
