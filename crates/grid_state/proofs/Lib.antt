@@ -1,5 +1,6 @@
 pub mod Building
 pub mod Chains
+pub mod Changed
 pub mod Classes
 pub mod LinkLists
 pub mod Ranges

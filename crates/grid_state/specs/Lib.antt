@@ -1,3 +1,4 @@
+pub mod Changes
 pub mod GridState
 pub mod Links
 pub mod Marks

@@ -15,6 +15,7 @@ use crate::rows;
 use crate::split::first_stranded;
 use crate::state_fault::StateFault;
 use crate::types::State;
+use crate::whole::Whole;
 use fb_types::{Column, Grid, Items};
 use std::alloc::{AllocError, Global};
 
@@ -60,7 +61,7 @@ fn live_classes(
     rows::same_label(alloc, &joined.class_of, label)
 }
 
-/// The state of a grid, once its classes of nodes are numbered and its lines joined to them.
+/// The parts of the state of a grid, once its classes of nodes are numbered and its lines joined to them.
 fn with_classes(
     alloc: Global,
     grid: &Grid,
@@ -69,7 +70,7 @@ fn with_classes(
     out: &[bool],
     nodes: Numbering,
     lines: &[Link],
-) -> Result<State, AllocError>
+) -> Result<Whole, AllocError>
     requires { AreParts grid.now slack outage.now out.now nodes.count nodes.class_of.items lines.now }
     ensures { IfOk result (λ s. IsStateOf grid.now slack outage.now s) }
 {
@@ -79,7 +80,7 @@ fn with_classes(
     let rows = rows::rows(alloc, &live, lines)?;
     let sums = rows::row_sums(alloc, &rows)?;
     let carries = rows::carrying(alloc, grid.branches.as_slice(), out, &class_of, &live)?;
-    Ok(State::new(class_of, slack, live, rows, carries, sums))
+    Ok(Whole::new(class_of, slack, live, rows, carries, sums))
 }
 
 /// The state of a grid, whether it is split or not.
@@ -96,7 +97,8 @@ pub fn whole_state(
     let out = links::outage_marks(alloc, grid.branches.as_slice().len(), outage)?;
     let nodes = node_classes(alloc, grid, &out)?;
     let lines = class_lines(alloc, grid, &out, &nodes.class_of)?;
-    with_classes(alloc, grid, slack, outage, &out, nodes, &lines)
+    let whole = with_classes(alloc, grid, slack, outage, &out, nodes, &lines)?;
+    State::new(alloc, whole)
 }
 
 /// The state of a grid with an outage, seen from the slack node, where the nodes with a key weight are marked. It is refused

@@ -2,14 +2,17 @@
 #![tactic(auto)]
 
 mod build;
+mod changes;
 mod components;
 mod flat_rows;
 mod keyed_nodes;
 mod links;
 mod rows;
+mod sharing;
 mod split;
 mod state_fault;
 mod types;
+mod whole;
 
 pub use build::{state, state_from};
 pub use keyed_nodes::KeyedNodes;

@@ -142,7 +142,7 @@ pub fn rows(alloc: Global, live: &[bool], links: &[Link]) -> Result<FlatRows, Al
 }
 
 /// The sum of the susceptances of a row.
-fn row_sum(row: &[Edge]) -> i128
+pub fn row_sum(row: &[Edge]) -> i128
     requires { length row.now ≤ 16384 }
     ensures { result ≡ pos (susceptance_over row.now) }
 {

@@ -1,14 +1,17 @@
 //! What a state holds, and how it is read.
 
-ghost use Rattle.std.specs.Prelude.{◌≡◌, ◌<◌, length, pos};
+ghost use Rattle.std.specs.Prelude.{◌≡◌, ◌<◌, length, pos, IfOk};
 ghost use Rattle.grid_state.specs.GridState.{IsSound, classes_of, class_at, is_live, susceptance_of, row_of, edge_of, carries_at};
 
-use crate::flat_rows::FlatRows;
-use fb_types::Items;
+use crate::changes::Changes;
+use crate::sharing::changes_of;
+use crate::whole::Whole;
+use std::alloc::{AllocError, Global};
 use std::marker::Model;
+use std::sync::Arc;
 
 /// A carrying branch as a class sees it: the class at its other end, and its susceptance in kW/rad.
-#[derive(Clone, Copy, Debug)]
+#[derive(Clone, Copy, Debug, PartialEq, Eq)]
 pub struct Edge {
     pub to: u32,
     pub b: u64,
@@ -16,56 +19,68 @@ pub struct Edge {
 
 /// The state of a grid: the grid with an outage, seen from a slack node. Nodes and branches go by their places in the grid,
 /// from 0, and classes by their numbers.
+///
+/// Its parts may be those of another state, beside which it keeps what it changes of them.
 #[derive(Debug, Drop)]
 pub struct State {
-    class_of: Items<u32>,
-    slack: u32,
-    live: Items<bool>,
-    rows: FlatRows,
-    sums: Items<i128>,
-    carries: Items<bool>,
+    whole: Arc<Whole, Global>,
+    changes: Changes,
 }
 
 impl Model for State {
-    ghost use Rattle.grid_state.specs.GridState.{GridState, IsKept};
+    ghost use Rattle.grid_state.specs.GridState.{GridState, IsSound};
 
     ghost Value = { GridState };
 
-    ghost view = { λ s. record { class_of = s.class_of; slack = s.slack; live = s.live; rows = s.rows; carries = s.carries } };
+    ghost use Rattle.std.specs.Arc.{arc_value};
+    ghost use Rattle.grid_state.specs.Changes.{with_changes};
 
-    ghost invariant = { λ s. IsKept (record { class_of = s.class_of; slack = s.slack; live = s.live; rows = s.rows; carries = s.carries }) s.sums };
+    ghost view = { λ s. with_changes s.changes (arc_value s.whole) };
+
+    ghost invariant = { λ s. IsSound (with_changes s.changes (arc_value s.whole)) };
 }
 
 impl State {
-    ghost use Rattle.grid_state.specs.GridState.{IsKept};
-
-    /// A state of these parts.
-    pub(crate) fn new(
-        class_of: Vec<u32>,
-        slack: u32,
-        live: Vec<bool>,
-        rows: FlatRows,
-        carries: Vec<bool>,
-        sums: Vec<i128>,
-    ) -> State
-        requires { IsKept (record { class_of = class_of.items; slack = slack; live = live.items; rows = rows; carries = carries.items }) sums.items }
-        ensures { result ≡ record { class_of = class_of.items; slack = slack; live = live.items; rows = rows; carries = carries.items } }
+    /// The state that has these parts.
+    pub(crate) fn new(alloc: Global, whole: Whole) -> Result<State, AllocError>
+        ensures { IfOk result (λ s. s ≡ whole) }
     {
-        State {
-            class_of: Items::from_vec(class_of),
-            slack,
-            live: Items::from_vec(live),
-            rows,
-            sums: Items::from_vec(sums),
-            carries: Items::from_vec(carries),
+        whole.sound();
+        let whole = Arc::new(alloc, whole)?;
+        let changes = Changes::none(alloc);
+        Ok(State { whole, changes })
+    }
+
+    /// The same state, which shares its parts with another one of the grid where it changes little of them. So it takes less
+    /// memory.
+    pub fn shared_with(self, alloc: Global, other: &State) -> Result<State, AllocError>
+        ensures { IfOk result (λ s. s ≡ self) }
+    {
+        self.sound();
+        match changes_of(alloc, &other.whole, &self)? {
+            Some(changes) => Ok(State {
+                whole: Arc::try_clone(&other.whole)?,
+                changes,
+            }),
+            None => Ok(self),
         }
+    }
+
+    /// The parts that it changes.
+    pub(crate) fn whole(&self) -> &Whole
+        ensures class_of { result.now.class_of ≡ self.now.class_of }
+        ensures slack { result.now.slack ≡ self.now.slack }
+        ensures live { result.now.live ≡ self.now.live }
+        ensures branches { length result.now.carries ≡ length self.now.carries }
+    {
+        &self.whole
     }
 
     /// How many classes there are.
     pub fn classes(&self) -> u32
         ensures { result ≡ classes_of self.now }
     {
-        self.live.as_slice().len() as u32
+        self.whole.classes()
     }
 
     /// The class of a node.
@@ -73,14 +88,14 @@ impl State {
         requires { node < length self.now.class_of }
         ensures { result ≡ class_at self.now node }
     {
-        self.class_of.as_slice()[node as usize]
+        self.whole.class_of(node)
     }
 
     /// The class of the slack node.
     pub fn slack(&self) -> u32
         ensures { result ≡ self.now.slack }
     {
-        self.slack
+        self.whole.slack()
     }
 
     /// Whether a class is live.
@@ -88,7 +103,7 @@ impl State {
         requires { class < classes_of self.now }
         ensures { result ≡ is_live self.now class }
     {
-        self.live.as_slice()[class as usize]
+        self.whole.live(class)
     }
 
     /// The sum of the susceptances of the carrying branches of a class to other classes, in kW/rad.
@@ -96,7 +111,7 @@ impl State {
         requires { class < classes_of self.now }
         ensures { result ≡ pos (susceptance_of self.now class) }
     {
-        self.sums.as_slice()[class as usize]
+        self.changes.susceptance_at(&self.whole, class)
     }
 
     /// The carrying branches of a class to other classes, in the order of the branches; parallel branches stand there each.
@@ -104,7 +119,7 @@ impl State {
         requires { class < classes_of self.now }
         ensures { result.now ≡ row_of self.now class }
     {
-        self.rows.row(class)
+        self.changes.row(&self.whole, class)
     }
 
     /// How many carrying branches a class has to other classes. A class that is not live has none.
@@ -112,7 +127,8 @@ impl State {
         requires { class < classes_of self.now }
         ensures { result ≡ length (row_of self.now class) }
     {
-        self.rows.row(class).len() as u32
+        self.sound();
+        self.row(class).len() as u32
     }
 
     /// The class at the other end of the carrying branch at a place of a class's row, and its susceptance in kW/rad.
@@ -131,13 +147,13 @@ impl State {
         requires { branch < length self.now.carries }
         ensures { result ≡ carries_at self.now branch }
     {
-        self.carries.as_slice()[branch as usize]
+        self.changes.carries(&self.whole, branch)
     }
 
     /// What holds of every state, for its callers' proofs.
     pub fn sound(&self)
         ensures { IsSound self.now }
     {
-        let _slack = &self.slack;
+        let _changes = &self.changes;
     }
 }

@@ -10,7 +10,7 @@ ghost use Rattle.run_inputs.specs.Refusals.{code_at};
 use crate::fault::InputsError;
 use fb_types::{Column, Crac, Grid, Items, Text};
 use grid_state::{KeyedNodes, State, StateFault, state_from};
-use std::alloc::Global;
+use std::alloc::{AllocError, Global};
 
 /// The branches that are out in the state of this number: none in the base state, of number 0, and behind it come the states
 /// after each outage.
@@ -53,6 +53,16 @@ fn refused_at(alloc: Global, grid: &Grid, number: u32, fault: StateFault) -> Inp
     }
 }
 
+/// A state which shares its parts with the first of others, the base state, where it changes little of them.
+fn beside_first(alloc: Global, state: State, states: &Items<State>) -> Result<State, AllocError>
+    ensures { IfOk result (λ s. s ≡ state) }
+{
+    match states.get(0) {
+        Some(base) => state.shared_with(alloc, base),
+        None => Ok(state),
+    }
+}
+
 /// The base state and the states after each outage, none of which is split, or the first that is.
 pub fn states(
     alloc: Global,
@@ -75,7 +85,10 @@ pub fn states(
     for number in 0..outages.len() + 1 {
         let out = out_in(crac, outages, number);
         match state_from(alloc, grid, slack, out, &keyed) {
-            Ok(state) => states.add(state)?,
+            Ok(state) => {
+                let state = beside_first(alloc, state, &states)?;
+                states.add(state)?;
+            }
             Err(fault) => return Err(refused_at(alloc, grid, number as u32, fault)),
         }
     }
