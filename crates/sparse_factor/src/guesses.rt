@@ -27,7 +27,7 @@ pub fn total_of(p: &[i128]) -> u128
 }
 
 /// The most that an angle may be where the right side adds up to `total`, by the sizes of the state.
-fn limit_by(state: &State, sizes: &Sizes, total: u128) -> u128
+pub(crate) fn limit_by(state: &State, sizes: &Sizes, total: u128) -> u128
     requires sizes { AreSizes state.now sizes.now }
     requires room { HasRoomFor state.now total }
     ensures { IsLimit state.now total result }
@@ -50,13 +50,13 @@ pub fn limit_of(state: &State, total: u128) -> u128
 
 /// Rounds numbers of so many binary places to the nearest whole number.
 #[derive(Clone, Copy, Debug)]
-struct Rounding {
+pub(crate) struct Rounding {
     places: u32,
     half: i128,
 }
 
 impl Rounding {
-    fn new(places: i64) -> Rounding {
+    pub fn new(places: i64) -> Rounding {
         let places = places.clamp(0, 127);
         Rounding {
             places: places.unsigned_abs() as u32,
@@ -69,8 +69,14 @@ impl Rounding {
     }
 }
 
-/// The angle of a class, brought within the limit.
-fn angle_of(state: &State, numbers: &[i128], rounding: &Rounding, limit: u128, class: u32) -> i128
+/// The angle of a class that a number stands for, brought within the limit.
+pub(crate) fn angle_of(
+    state: &State,
+    number: i128,
+    rounding: &Rounding,
+    limit: u128,
+    class: u32,
+) -> i128
     requires class { class < classes_of state.now }
     requires small { limit ≤ 2 ^ 121 }
     ensures within { unsigned_abs result ≤ limit }
@@ -78,7 +84,7 @@ fn angle_of(state: &State, numbers: &[i128], rounding: &Rounding, limit: u128, c
 {
     if is_free(state, class) {
         let limit = limit as i128;
-        let angle = rounding.nearest(number_at(numbers, class));
+        let angle = rounding.nearest(number);
         angle.clamp(-limit, limit)
     } else {
         0
@@ -98,7 +104,8 @@ fn angles_of(
 {
     let mut angles = Items::from_vec(Vec::with_capacity(alloc, state.classes() as usize)?);
     for class in 0..state.classes() {
-        angles.add(angle_of(state, numbers, rounding, limit, class))?;
+        let number = number_at(numbers, class);
+        angles.add(angle_of(state, number, rounding, limit, class))?;
     }
     Ok(angles)
 }

@@ -4,16 +4,16 @@
 //! the outage is L - b·u·u'. So with y = b·L^-1·u the angles of the right side p + c·u are x + y·g, x being those of p before
 //! the outage and g = (c/b + x_i - x_j) / (1 - (y_i - y_j)), where i and j are the branch's classes (Sherman and Morrison 1950).
 
-ghost use Rattle.std.specs.Prelude.{◌≡◌, length, IfOk};
+ghost use Rattle.std.specs.Prelude.{◌≡◌, ◌^◌, ◌≤◌, length, IfOk};
 ghost use Rattle.grid_state.specs.GridState.{classes_of};
 ghost use Rattle.grid_laplacian.specs.Sizes.{size_of};
 ghost use Rattle.grid_laplacian.specs.Ranges.{HasRoomFor};
 ghost use Rattle.sparse_factor.specs.Guesses.{IsGuess};
-ghost use Rattle.sparse_factor.specs.Bounds.{AreSizes};
+ghost use Rattle.sparse_factor.specs.Bounds.{AreBounded, AreSizes};
 
 use crate::factors::Factor;
 use crate::fractions::{Divisor, Signed};
-use crate::guesses::{guess_by, guess_of};
+use crate::guesses::{Rounding, angle_of, guess_by, limit_by, total_of};
 use crate::numbers::{add_at, copy_of, number_at};
 use crate::remainders::remainder_of;
 use crate::shares::shifted;
@@ -33,11 +33,19 @@ pub struct Outage {
     rest: Divisor,
 }
 
+/// Angles of a right side before the outage, in so many binary places, and what the branch had put in.
+#[derive(Clone, Copy)]
+struct Before<'a> {
+    angles: &'a [i128],
+    places: i64,
+    c: i128,
+}
+
 /// How many binary places y has.
 const PLACES: i64 = 100;
 
 /// y is no longer corrected where it leaves at most the susceptance of a class times 2^ENOUGH of its last place.
-const ENOUGH: i64 = 8;
+const ENOUGH: i64 = 22;
 
 /// y is corrected at most so many times.
 const CORRECTIONS: u32 = 4;
@@ -111,39 +119,71 @@ impl Outage {
         })
     }
 
-    /// g, where the branch had put in c with so many binary places.
-    fn factor_of(&self, angles: &[i128], c: i128, places: i64) -> i128 {
-        let put_in = shifted(c, places) / i128::from(self.b.max(1));
-        let apart = number_at(angles, self.from).wrapping_sub(number_at(angles, self.to));
+    /// g, where the branch had put in c.
+    fn factor_of(&self, before: &Before<'_>) -> i128 {
+        let put_in = shifted(before.c, before.places) / i128::from(self.b.max(1));
+        let one = number_at(before.angles, self.from);
+        let apart = one.wrapping_sub(number_at(before.angles, self.to));
         self.rest.quotient(put_in.wrapping_add(apart))
     }
 
-    /// The angles after the outage.
-    fn moved(
-        &self,
-        alloc: Global,
-        angles: &[i128],
-        c: i128,
-        places: i64,
-    ) -> Result<Vec<i128>, AllocError> {
-        let by = self.factor_of(angles, c, places);
-        let mut moved = Vec::with_capacity(alloc, angles.len())?;
-        for (angle, change) in angles.iter().zip(&self.changes) {
-            moved.push(angle.wrapping_add(change.times(by)))?;
+    /// The angle of a class after the outage.
+    fn moved(&self, angles: &[i128], by: i128, class: u32) -> i128 {
+        let angle = number_at(angles, class);
+        match self.changes.get(class as usize) {
+            Some(change) => angle.wrapping_add(change.times(by)),
+            None => angle,
         }
-        Ok(moved)
     }
 
-    /// The angles of a right side after the outage. Where it differs from what is kept is what the branch had put in.
-    fn moved_solution(
+    /// The angles of all classes after the outage, brought within the limit.
+    fn angles_after(
         &self,
         alloc: Global,
-        solution: &Solution,
-        p: &[i128],
-    ) -> Result<Vec<i128>, AllocError> {
+        state: &State,
+        before: &Before<'_>,
+        limit: u128,
+    ) -> Result<Items<i128>, AllocError>
+        requires { limit ≤ 2 ^ 121 }
+        ensures { IfOk result (λ w. AreBounded state.now limit w (classes_of state.now)) }
+    {
+        let by = self.factor_of(before);
+        let rounding = Rounding::new(before.places);
+        let mut angles = Vec::with_capacity(alloc, state.classes() as usize)?;
+        for class in 0..state.classes() {
+            let number = self.moved(before.angles, by, class);
+            angles.push(angle_of(state, number, &rounding, limit, class))?;
+        }
+        Ok(Items::from_vec(angles))
+    }
+
+    /// The guess for the right side p after the outage, from angles before it.
+    fn guess_after(
+        &self,
+        alloc: Global,
+        state: &State,
+        sizes: &Sizes,
+        p: &Items<i128>,
+        before: &Before<'_>,
+    ) -> Result<Items<i128>, AllocError>
+        requires each_class { length p.now ≡ classes_of state.now }
+        requires room { HasRoomFor state.now (size_of p.now) }
+        requires sizes { AreSizes state.now sizes.now }
+        ensures { IfOk result (λ w. IsGuess state.now (size_of p.now) w) }
+    {
+        let total = total_of(p.as_slice());
+        let limit = limit_by(state, sizes, total);
+        self.angles_after(alloc, state, before, limit)
+    }
+
+    /// The angles of a right side before the outage. Where p differs from it is what the branch had put in.
+    fn before<'a>(&self, solution: &'a Solution, p: &[i128]) -> Before<'a> {
         let side = solution.side.as_slice();
-        let c = number_at(p, self.from).wrapping_sub(number_at(side, self.from));
-        self.moved(alloc, &solution.angles, c, solution.places)
+        Before {
+            angles: &solution.angles,
+            places: solution.places,
+            c: number_at(p, self.from).wrapping_sub(number_at(side, self.from)),
+        }
     }
 
     /// Guesses the angles that the right side p makes in a state after the outage, from those of the right side at this place,
@@ -181,8 +221,8 @@ impl Outage {
     {
         match solutions.solution(column) {
             Some(solution) => {
-                let moved = self.moved_solution(alloc, solution, p.as_slice())?;
-                guess_by(alloc, state, sizes, p, &moved, solution.places)
+                let before = self.before(solution, p.as_slice());
+                self.guess_after(alloc, state, sizes, p, &before)
             }
             None => guess_by(alloc, state, sizes, p, &[], 0),
         }
@@ -202,7 +242,11 @@ impl Outage {
     {
         let mut angles = copy_of(alloc, p.as_slice())?;
         let places = factor.solve(&mut angles);
-        let moved = self.moved(alloc, &angles, 0, places)?;
-        guess_of(alloc, state, p, &moved, places)
+        let before = Before {
+            angles: &angles,
+            places,
+            c: 0,
+        };
+        self.guess_after(alloc, state, &Sizes::new(state), p, &before)
     }
 }
