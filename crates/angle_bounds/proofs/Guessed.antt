@@ -9,7 +9,6 @@ use Rattle.whole_laws.specs.Sums.{total_below, at, IsWithin}
 use Rattle.whole_laws.specs.TotalLaws.{total_below-le, total_below-combine}
 use Rattle.grid_state.specs.GridState.{GridState, row_of, is_free, classes_of, live_count, susceptance_of, weight, IsSound}
 use Rattle.grid_laplacian.specs.Tables.{laplacian, SolvesTable}
-use Rattle.grid_laplacian.specs.Laws.{laplacian_at}
 use Rattle.grid_laplacian.specs.Sizes.{free_susceptance_of, least_susceptance_of, total_susceptance_of, greatest_susceptance_of, size_of}
 use Rattle.grid_laplacian.specs.Ranges.{HasRoomFor, greater_total_of, greatest_total_of, reach_of}
 use Rattle.grid_laplacian.specs.Enclosures.{IsBarrier, IsNear, EnclosesWithin, EnclosesColumn}

@@ -9,7 +9,7 @@ use Rattle.whole_laws.specs.TotalLaws.{total_below-le, total_below-combine}
 use Rattle.grid_state.specs.GridState.{GridState, is_free, classes_of, susceptance_of}
 use Rattle.grid_laplacian.specs.Sizes.{free_susceptance_of, total_susceptance_of, size_of}
 use Rattle.grid_laplacian.proofs.LawProofs.{total_of_list}
-use Rattle.angle_bounds.specs.RightSides.{above_zero, below_zero, free_value, doubled, IsMade}
+use Rattle.angle_bounds.specs.RightSides.{above_zero, below_zero, free_value, doubled, IsMade, IsAtMostOne}
 
 -- one number more
 pub made_more : (s : GridState) (f : ℕ → ℤ) (q : List ℤ) (n : ℕ) (x : ℤ) → IsMade s f q n → x ≡ free_value s f n → IsMade s f (q ++ x ∷ []) (n + 1)
@@ -18,6 +18,14 @@ made_more s f q n x is e = record {
   values = below_more (λ i. at (q ++ x ∷ []) i ≡ free_value s f i) n
       (λ i h. get_or_append_left q (x ∷ []) (pos 0) i (omega (arith, is.each_class)) ∙ is.values i h)
       (get_or_at q x [] (pos 0) n is.each_class ∙ e);
+}
+
+-- one number more that is at most the susceptance
+pub little_more : (s : GridState) (left : List ℤ) (n : ℕ) (z : ℤ) → length left ≡ n → IsAtMostOne s left n → nat_abs z ≤ susceptance_of s n → IsAtMostOne s (left ++ z ∷ []) (n + 1)
+little_more s left n z same is le = record {
+  each = below_more (λ i. is_free s i ≡ true → nat_abs (at (left ++ z ∷ []) i) ≤ susceptance_of s i) n
+      (λ i h on. rw (get_or_append_left left (z ∷ []) (pos 0) i (omega (arith, same))) (is.each i h on))
+      (λ on. rw (get_or_at left z [] (pos 0) n same) le);
 }
 
 -- what holds of 0, and of f wherever it counts

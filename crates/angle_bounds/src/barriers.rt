@@ -160,7 +160,11 @@ pub fn try_barrier_from(
     let right_side = doubled_susceptances(alloc, state)?;
     let approach = corrected(alloc, state, solver, right_side.as_slice(), guess)?;
     if is_barrier(state, approach.w.as_slice(), approach.left.as_slice()) {
-        let Approach { w, left: _ } = approach;
+        let Approach {
+            w,
+            left: _,
+            is_settled: _,
+        } = approach;
         Ok(Some(w))
     } else {
         Ok(None)

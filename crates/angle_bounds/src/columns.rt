@@ -23,7 +23,7 @@ use std::alloc::{AllocError, Global};
 fn kappa_of(left: &[i128]) -> u8
     ensures { HasLeastKappa left.now result }
 {
-    if total_of(left) == 0 { 0 } else { 1 }
+    if is_total_within(left, 0) { 0 } else { 1 }
 }
 
 /// Angles with kappa 0 where they leave nothing, else 1.
@@ -31,18 +31,26 @@ fn with_kappa(approach: Approach) -> Angles
     ensures same { result.w ≡ approach.w }
     ensures least { HasLeastKappa approach.left result.kappa }
 {
-    let Approach { w, left } = approach;
+    let Approach {
+        w,
+        left,
+        is_settled: _,
+    } = approach;
     let kappa = kappa_of(left.as_slice());
     Angles { kappa, w }
 }
 
 /// Whether what is left is small enough to be left: below the susceptance everywhere, or at most as much where more than one
 /// class is live beside the slack's.
-fn is_done(state: &State, left: &[i128]) -> bool
-    requires { length left.now ≡ classes_of state.now }
-    ensures { OnTrue result (IsAtMostOne state.now left.now (classes_of state.now)) }
+fn is_done(state: &State, approach: &Approach) -> bool
+    requires each_class { length approach.now.left ≡ classes_of state.now }
+    requires settled { OnTrue approach.now.is_settled (IsAtMostOne state.now approach.now.left (classes_of state.now)) }
+    ensures { OnTrue result (IsAtMostOne state.now approach.now.left (classes_of state.now)) }
 {
-    is_settled(state, left, live_classes(state) > 2)
+    if approach.is_settled {
+        return true;
+    }
+    is_settled(state, approach.left.as_slice(), live_classes(state) > 2)
 }
 
 /// Proposes angles where a guess leaves too much: what it leaves is swept, or all of `p` where it leaves more than `p`.
@@ -160,7 +168,7 @@ pub fn enclose_from(
 {
     state.sound();
     let approach = corrected(alloc, state, solver, p.as_slice(), guess)?;
-    if is_done(state, approach.left.as_slice()) {
+    if is_done(state, &approach) {
         Ok(with_kappa(approach))
     } else {
         swept_angles(alloc, state, p, &approach)
@@ -188,7 +196,7 @@ pub fn try_enclose_from(
 {
     state.sound();
     let approach = corrected(alloc, state, solver, p.as_slice(), guess)?;
-    if is_done(state, approach.left.as_slice()) {
+    if is_done(state, &approach) {
         Ok(Some(with_kappa(approach)))
     } else {
         Ok(None)

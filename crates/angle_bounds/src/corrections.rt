@@ -9,17 +9,19 @@ ghost use Rattle.sparse_factor.specs.Guesses.{IsGuess};
 ghost use Rattle.angle_bounds.specs.RightSides.{IsMoved, AreMoved};
 ghost use Rattle.angle_bounds.specs.Approaches.{Approaches};
 
-use crate::remainders::{greater_total, is_settled, is_total_within, remainders};
+use crate::remainders::{Left, greater_total, is_total_within, remainders};
 use fb_types::Items;
 use grid_state::State;
 use sparse_factor::{Solver, limit_of, total_of};
 use std::alloc::{AllocError, Global};
 
-/// Guessed angles, and what they leave of the right side.
+/// Guessed angles, what they leave of the right side, and whether that is below the susceptance at each live class but the
+/// slack's.
 #[derive(Debug, Drop)]
 pub struct Approach {
     pub w: Items<i128>,
     pub left: Items<i128>,
+    pub is_settled: bool,
 }
 
 /// Angles with what they leave.
@@ -35,8 +37,15 @@ pub fn approach_of(
     ensures approaches { IfOk result (Approaches state.now p.now) }
     ensures same { IfOk result (λ approach. approach.w ≡ w) }
 {
-    let left = remainders(alloc, state, p, w.as_slice())?;
-    Ok(Approach { w, left })
+    let Left {
+        numbers: left,
+        is_settled,
+    } = remainders(alloc, state, p, w.as_slice())?;
+    Ok(Approach {
+        w,
+        left,
+        is_settled,
+    })
 }
 
 /// A number moved as far as a correction says, unless that takes it past the limit.
@@ -74,10 +83,10 @@ fn corrected_once(
     requires approaches { Approaches state.now p.now approach.now }
     ensures { IfOk result (λ found. IfSome found (Approaches state.now p.now)) }
 {
-    let left = approach.left.as_slice();
-    if is_settled(state, left, false) {
+    if approach.is_settled {
         return Ok(None);
     }
+    let left = approach.left.as_slice();
     let total = total_of(p);
     if is_total_within(left, greater_total(state, total)) {
         let by = solver.guess(alloc, state, &approach.left)?;

@@ -13,7 +13,7 @@ returns-then-is_done-clause-within c =
     let p = c.args.p.now in
     let a = c.in_ok-approach.approach in
     let approaches : Approaches s p a = rw c.as_slice.ensures.items at c.in_ok-approach.ensures in
-    let little : IsAtMostOne s a.left (classes_of s) = rw c.as_slice-2.ensures.items at c.if-is_done.ensures in
+    let little : IsAtMostOne s a.left (classes_of s) = c.if-is_done.ensures in
     settled_enclose s p a c.with_kappa.result approaches little c.with_kappa.ensures.same c.with_kappa.ensures.least
 
 pub returns-then-is_done-clause-column : goal.returns-then-is_done-clause-column
@@ -22,7 +22,7 @@ returns-then-is_done-clause-column c =
     let p = c.args.p.now in
     let a = c.in_ok-approach.approach in
     let approaches : Approaches s p a = rw c.as_slice.ensures.items at c.in_ok-approach.ensures in
-    let little : IsAtMostOne s a.left (classes_of s) = rw c.as_slice-2.ensures.items at c.if-is_done.ensures in
+    let little : IsAtMostOne s a.left (classes_of s) = c.if-is_done.ensures in
     column_of s p c.with_kappa.result (settled_enclose s p a c.with_kappa.result approaches little c.with_kappa.ensures.same c.with_kappa.ensures.least)
 
 pub returns-then-is_done-clause-holds : goal.returns-then-is_done-clause-holds
@@ -31,7 +31,7 @@ returns-then-is_done-clause-holds c =
     let p = c.args.p.now in
     let a = c.in_ok-approach.approach in
     let approaches : Approaches s p a = rw c.as_slice.ensures.items at c.in_ok-approach.ensures in
-    let little : IsAtMostOne s a.left (classes_of s) = rw c.as_slice-2.ensures.items at c.if-is_done.ensures in
+    let little : IsAtMostOne s a.left (classes_of s) = c.if-is_done.ensures in
     containment_holds s c.sound.ensures c.args.barrier.now p c.with_kappa.result (size_of p) c.requires.barrier
     (settled_enclose s p a c.with_kappa.result approaches little c.with_kappa.ensures.same c.with_kappa.ensures.least)
 

@@ -8,7 +8,7 @@ use Rattle.angle_bounds.proofs.corrections.corrected_once.Goals as goal
 pub guess-requires-clause-room : goal.guess-requires-clause-room
 guess-requires-clause-room c =
     let left = c.args.approach.now.left in
-    let within : size_of left ≤ c.greater_total.result = rw c.as_slice-left.ensures.items at (c.if-is_total_within.ensures refl) in
+    let within : size_of left ≤ c.greater_total.result = rw c.as_slice-left.ensures.items at (c.if-is_total_within.ensures.0 refl) in
     room_for_left c.args.state.now (size_of c.args.p.now) c.total_of-total.result c.greater_total.result (size_of left) c.total_of-total.ensures c.greater_total.ensures within c.requires.room
 
 least : (total size k : ℕ) → total ≡ min size k → total ≤ size
