@@ -1,7 +1,7 @@
 -- The factors of the zones, zone by zone, and where the angles of a zone's blocks stand.
-use Rattle.std.proofs.Common.{◌≡◌, ℕ, zero, suc, ◌+◌, ◌<◌, ◌≤◌, Bool, ℤ, List, [], ◌∷◌, ◌++◌, length, map, take, drop, get_or, All, refl, sym, ap, ap₂, subst, ◌∙◌, arith, add-one, take_all}
+use Rattle.std.proofs.Common.{◌≡◌, ℕ, zero, suc, ◌+◌, ◌<◌, ◌≤◌, ℤ, List, [], ◌∷◌, ◌++◌, length, take, drop, get_or, All, refl, sym, ap, ap₂, subst, ◌∙◌, arith, add-one, take_all}
 use Rattle.std.specs.List.{AllZip}
-use Rattle.std.proofs.lemmas.List.{map-append, drop-drop}
+use Rattle.std.proofs.lemmas.List.{drop-drop}
 use Rattle.std.proofs.lemmas.List.Elements.{All-get_or, All-same}
 use Rattle.fb_types.specs.declared.keys.Block.{Block}
 use Rattle.fb_types.specs.declared.keys.Column.{Column}
@@ -11,7 +11,7 @@ use Rattle.security.specs.Flows.{NumberedBranch}
 use Rattle.zonal_factors.specs.FactorSpans.{factor_span_of, angles_from}
 use Rattle.state_proofs.specs.StateProofs.{all_blocks}
 use Rattle.state_proofs.specs.declared.StateProof.{StateProof}
-use Rattle.cnec_rows.specs.RowNumbers.{directed, factors_from}
+use Rattle.cnec_rows.specs.RowNumbers.{factors_from}
 
 -- how many blocks the keys have together
 abbrev pub block_count : List Column → ℕ
@@ -45,24 +45,22 @@ from_suc s c proof first (x ∷ columns) (suc i) d h =
     (from_suc s c proof (first + length x.blocks) columns i d (omega arith)
     ∙ ap (λ k. take i (factors_from s c proof (first + length x.blocks) columns) ++ factor_span_of s c proof.barrier (get_or columns i d) proof.blocks k ∷ []) (omega arith))
 
-pub factors_more : (s : GridState) (c : NumberedBranch) (proof : StateProof) (against : Bool) (columns : List Column) (i first : ℕ) (column : Column) (factor turned : ℤ × ℤ) (factors more : List (ℤ × ℤ))
+pub factors_more : (s : GridState) (c : NumberedBranch) (proof : StateProof) (columns : List Column) (i first : ℕ) (column : Column) (factor : ℤ × ℤ) (factors more : List (ℤ × ℤ))
     → i < length columns → column ≡ get_or columns i column → first ≡ block_count (take i columns)
-    → factor ≡ factor_span_of s c proof.barrier column proof.blocks first → turned ≡ directed against factor
-    → factors ≡ map (directed against) (take i (factors_from s c proof 0 columns)) → more ≡ factors ++ turned ∷ []
-    → more ≡ map (directed against) (take (i + 1) (factors_from s c proof 0 columns))
-factors_more s c proof against columns i first column factor turned factors more h at e is turn so_far pushed =
+    → factor ≡ factor_span_of s c proof.barrier column proof.blocks first
+    → factors ≡ take i (factors_from s c proof 0 columns) → more ≡ factors ++ factor ∷ []
+    → more ≡ take (i + 1) (factors_from s c proof 0 columns)
+factors_more s c proof columns i first column factor factors more h at e is so_far pushed =
     let place : first ≡ 0 + block_count (take i columns) = omega (arith, e) in
     let here : factor ≡ factor_span_of s c proof.barrier (get_or columns i column) proof.blocks (0 + block_count (take i columns)) =
     is ∙ ap₂ (λ (x : Column) (k : ℕ). factor_span_of s c proof.barrier x proof.blocks k) at place in
-    pushed ∙ ap₂ (λ u v. u ++ v ∷ []) so_far (turn ∙ ap (directed against) here)
-    ∙ sym (map-append (directed against) (take i (factors_from s c proof 0 columns)) (factor_span_of s c proof.barrier (get_or columns i column) proof.blocks (0 + block_count (take i columns)) ∷ []))
-    ∙ ap (map (directed against)) (sym (rw add-one (from_suc s c proof 0 columns i column h)))
+    pushed ∙ ap₂ (λ u v. u ++ v ∷ []) so_far here ∙ sym (rw add-one (from_suc s c proof 0 columns i column h))
 
-pub factors_all : (s : GridState) (c : NumberedBranch) (proof : StateProof) (against : Bool) (columns : List Column) (i : ℕ) (factors : List (ℤ × ℤ)) → length columns ≤ i
-    → factors ≡ map (directed against) (take i (factors_from s c proof 0 columns)) → factors ≡ map (directed against) (factors_from s c proof 0 columns)
-factors_all s c proof against columns i factors h e =
+pub factors_all : (s : GridState) (c : NumberedBranch) (proof : StateProof) (columns : List Column) (i : ℕ) (factors : List (ℤ × ℤ)) → length columns ≤ i
+    → factors ≡ take i (factors_from s c proof 0 columns) → factors ≡ factors_from s c proof 0 columns
+factors_all s c proof columns i factors h e =
     let long = from_length s c proof 0 columns in
-    e ∙ ap (map (directed against)) (take_all i (factors_from s c proof 0 columns) (omega (arith, long)))
+    e ∙ take_all i (factors_from s c proof 0 columns) (omega (arith, long))
 
 -- ---- the angles of a zone's blocks
 

@@ -1,16 +1,24 @@
 -- A span in the row's direction holds the number in the row's direction.
-use Rattle.std.proofs.Common.{◌≡◌, ℕ, zero, suc, ◌+◌, ◌<◌, ◌≤◌, Bool, true, false, ℤ, pos, negsuc, ◌*ℤ◌, List, [], ◌∷◌, ◌++◌, length, take, get_or, sym, subst, arith, add-one}
+use Rattle.std.proofs.Common.{◌≡◌, ℕ, zero, suc, ◌+◌, ◌<◌, ◌≤◌, Bool, true, false, ℤ, pos, negsuc, ◌*ℤ◌, List, [], ◌∷◌, ◌++◌, length, map, take, get_or, All, sym, subst, arith, add-one}
 use Rattle.std.specs.List.{AllZip}
 use Rattle.std.proofs.lemmas.Int.{ints}
+use Rattle.std.proofs.lemmas.List.Elements.{All-map, All-same, All-weaker}
 use Rattle.whole_laws.specs.Ring.{ring}
 use Rattle.fractions.specs.Fractions.{Fraction, Same, times}
 use Rattle.fractions.specs.FractionLaws.{times_left_comm}
 use Rattle.fractions.specs.Spans.{LiesAt}
 use Rattle.fractions.specs.SpanLaws.{Lies-Same, Lies-negated}
 use Rattle.fb_span.specs.Ends.{EndsWithin}
+use Rattle.fb_types.specs.declared.grid.Grid.{Grid}
+use Rattle.fb_types.specs.declared.keys.Column.{Column}
+use Rattle.grid_state.specs.GridState.{GridState}
+use Rattle.security.specs.Flows.{NumberedBranch, factor_of, reference_flow_of}
+use Rattle.reference_flows.specs.ReferenceSpans.{HoldsReference}
+use Rattle.zonal_factors.specs.FactorSpans.{HoldsFactor}
 use Rattle.reference_flows.specs.WithoutExchanges.{trillion}
 use Rattle.security.specs.Rows.{direction_of}
 use Rattle.cnec_rows.specs.RowNumbers.{directed}
+use Rattle.cnec_rows.specs.RowParts.{HoldsAlong, HoldFactors}
 
 along : (p : Fraction) → Same (times trillion p) (times trillion (times (pos 1) p))
 along p = record { same = step trillion p.num p.den }
@@ -22,13 +30,26 @@ pub turned_lies : (against : Bool) (span : ℤ × ℤ) (p : Fraction) → LiesAt
 turned_lies false span p h = Lies-Same (along p) h
 turned_lies true span p h = Lies-Same (times_left_comm (negsuc 0) trillion p) (Lies-negated span.0 span.1 h)
 
--- ---- how large the ends are
+-- the same of each zone, and its factor
+turned_hold : (s : GridState) (c : NumberedBranch) (against : Bool) (columns : List Column) (along : List (ℤ × ℤ)) → AllZip (HoldsFactor s c) columns along
+    → HoldFactors s c (direction_of against) columns (map (directed against) along)
+turned_hold s c against [] [] h = tt
+turned_hold s c against [] (span ∷ along) h = absurd h
+turned_hold s c against (column ∷ columns) [] h = absurd h
+turned_hold s c against (column ∷ columns) (span ∷ along) h =
+    (λ es solved. turned_lies against span (factor_of s c column es) (h.0 es solved), turned_hold s c against columns along h.1)
 
-pub wider : (m n : ℕ) (span : ℤ × ℤ) → m ≤ n → EndsWithin m span → EndsWithin n span
-wider m n span h k = record {
-  low = record { low = omega (arith, ints, k.low.low); high = omega (arith, ints, k.low.high) };
-  high = record { low = omega (arith, ints, k.high.low); high = omega (arith, ints, k.high.high) };
-}
+pub turned_factors : (s : GridState) (c : NumberedBranch) (against : Bool) (columns : List Column) (along turned : List (ℤ × ℤ)) → AllZip (HoldsFactor s c) columns along → turned ≡ map (directed against) along
+    → HoldFactors s c (direction_of against) columns turned
+turned_factors s c against columns along turned h is = subst (HoldFactors s c (direction_of against) columns) (sym is) (turned_hold s c against columns along h)
+
+-- the same of the reference flow
+pub turned_along : (s : GridState) (grid : Grid) (c : NumberedBranch) (against : Bool) (span turned : ℤ × ℤ) → HoldsReference s grid c span → turned ≡ directed against span
+    → HoldsAlong s grid c (direction_of against) turned
+turned_along s grid c against span turned h is =
+    subst (HoldsAlong s grid c (direction_of against)) (sym is) (λ e solved. turned_lies against span (reference_flow_of s c e) (h e solved))
+
+-- ---- how large the ends are
 
 turned_ends : (m : ℕ) (against : Bool) (span : ℤ × ℤ) → EndsWithin m span → EndsWithin m (directed against span)
 turned_ends m false span k = k
@@ -39,6 +60,11 @@ turned_ends m true span k = record {
 
 pub turned_within : (m : ℕ) (against : Bool) (span turned : ℤ × ℤ) → EndsWithin m span → turned ≡ directed against span → EndsWithin m turned
 turned_within m against span turned k e = subst (EndsWithin m) (sym e) (turned_ends m against span k)
+
+pub turned_all : (m : ℕ) (against : Bool) (along turned : List (ℤ × ℤ)) → All (EndsWithin m) along → turned ≡ map (directed against) along → All (EndsWithin m) turned
+turned_all m against along turned h e =
+    All-same (EndsWithin m) turned (map (directed against) along) e
+    (All-map (EndsWithin m) (directed against) along (All-weaker (EndsWithin m) (λ span. EndsWithin m (directed against span)) (turned_ends m against) along h))
 
 -- ---- lists side by side, one place more
 

@@ -1,2 +1,3 @@
 pub mod RowNumbers
 pub mod RowParts
+pub mod RowFlows

@@ -1,28 +1,16 @@
-//! The reference flow and the factors of the zones in a row's direction.
+//! Spans in a row's direction, and the factors of the Core zones.
 
-ghost use Rattle.std.specs.Prelude.{◌≡◌, ◌+◌, ◌<◌, length, All, IfOk};
+ghost use Rattle.std.specs.Prelude.{◌≡◌, length, map, All, IfOk};
 ghost use Rattle.std.specs.List.{filter};
 ghost use Rattle.fb_span.specs.Ends.{EndsWithin};
-ghost use Rattle.grid_laplacian.specs.Ranges.{IsOfGrid, IsInRange};
-ghost use Rattle.grid_laplacian.specs.Enclosures.{IsBarrier, EnclosesColumn};
-ghost use Rattle.security.specs.Balances.{reference_side};
-ghost use Rattle.branch_spans.specs.FlowSpans.{ForBranch};
-ghost use Rattle.zonal_factors.specs.FactorSpans.{IsKey};
-ghost use Rattle.state_proofs.specs.StateProofs.{IsStateProof};
-ghost use Rattle.security.specs.Rows.{direction_of};
-ghost use Rattle.cnec_rows.specs.RowNumbers.{directed, fref_span, factor_spans, of_core};
-ghost use Rattle.cnec_rows.specs.RowParts.{HoldsAlong, HoldFactors};
+ghost use Rattle.cnec_rows.specs.RowNumbers.{directed, of_core};
 
 use fb_span::Span;
-use fb_types::{Column, Grid, Items};
-use grid_state::State;
-use reference_flows::reference_span;
-use state_proofs::StateProof;
+use fb_types::Items;
 use std::alloc::{AllocError, Global};
-use zonal_factors::factor_span;
 
 /// A span in the direction of a row.
-fn directed(against: bool, span: Span<i128>) -> Span<i128>
+pub fn directed(against: bool, span: Span<i128>) -> Span<i128>
     requires { EndsWithin 3_000_000_000_000_000_000_000_000 span }
     ensures { result ≡ directed against span }
 {
@@ -33,74 +21,20 @@ fn directed(against: bool, span: Span<i128>) -> Span<i128>
     }
 }
 
-/// The reference flow in the row's direction, in picowatts.
-pub fn reference_flow(
-    state: &State,
-    grid: &Grid,
-    branch: u32,
-    against: bool,
-    proof: &StateProof,
-) -> Span<i128>
-    requires of_grid { IsOfGrid grid.now state.now }
-    requires range { IsInRange grid.now state.now }
-    requires branch { branch < length grid.now.branches }
-    requires barrier { IsBarrier state.now proof.now.barrier }
-    requires encloses { EnclosesColumn state.now (reference_side state.now grid.now) proof.now.reference }
-    ensures value { ForBranch grid.now branch (λ c. result ≡ fref_span state.now c against proof.now) }
-    ensures within { EndsWithin 3_000_000_000_000_000_000_000_000 result }
-    ensures holds { ForBranch grid.now branch (λ c. HoldsAlong state.now grid.now c (direction_of against) result) }
-{
-    let along = reference_span(state, grid, branch, &proof.barrier, &proof.reference);
-    directed(against, along)
-}
-
-/// The place behind so many blocks more. No memory has room for the angles of 2^32 blocks.
-fn place_behind(first: u32, blocks: u64) -> Result<u32, AllocError>
-    ensures { IfOk result (λ place. place ≡ first + blocks) }
-{
-    let Ok(blocks) = u32::try_from(blocks) else {
-        return Err(AllocError);
-    };
-    match first.checked_add(blocks) {
-        Some(place) => Ok(place),
-        None => Err(AllocError),
-    }
-}
-
-/// The factors of all zones in the row's direction, in 10^-12.
-pub fn factor_spans(
+/// The factors in the row's direction, in 10^-12, from those along the branch.
+pub fn directed_factors(
     alloc: Global,
-    state: &State,
-    grid: &Grid,
-    branch: u32,
     against: bool,
-    columns: &Items<Column>,
-    proof: &StateProof,
+    along: &Items<Span<i128>>,
 ) -> Result<Items<Span<i128>>, AllocError>
-    requires of_grid { IsOfGrid grid.now state.now }
-    requires range { IsInRange grid.now state.now }
-    requires branch { branch < length grid.now.branches }
-    requires keys { All IsKey columns.now }
-    requires proof { IsStateProof state.now grid.now columns.now proof.now }
-    ensures value { IfOk result (λ factors. ForBranch grid.now branch (λ c. factors ≡ factor_spans state.now c against columns.now proof.now)) }
-    ensures count { IfOk result (λ factors. length factors ≡ length columns.now) }
+    requires { All (EndsWithin 1_000_000_000_000) along.now }
+    ensures value { IfOk result (λ factors. factors ≡ map (directed against) along.now) }
+    ensures count { IfOk result (λ factors. length factors ≡ length along.now) }
     ensures within { IfOk result (λ factors. All (EndsWithin 1_000_000_000_000) factors) }
-    ensures holds { IfOk result (λ factors. ForBranch grid.now branch (λ c. HoldFactors state.now c (direction_of against) columns.now factors)) }
 {
     let mut factors = Items::new(alloc);
-    let mut first = 0;
-    for column in columns.as_slice() {
-        let factor = factor_span(
-            state,
-            grid,
-            branch,
-            &proof.barrier,
-            column,
-            &proof.blocks,
-            first,
-        );
-        factors.add(directed(against, factor))?;
-        first = place_behind(first, column.blocks.len())?;
+    for factor in along.as_slice() {
+        factors.add(directed(against, *factor))?;
     }
     Ok(factors)
 }

@@ -2,8 +2,10 @@
 #![tactic(auto)]
 
 mod factors;
+mod flows;
 mod row;
 mod types;
 
-pub use row::row_numbers;
-pub use types::{RowProof, RowSpans, RowTerms, RowZones};
+pub use flows::branch_flows;
+pub use row::{row_numbers, row_on};
+pub use types::{BranchFlows, RowProof, RowSpans, RowTerms, RowZones};

@@ -12,9 +12,11 @@ ghost use Rattle.zonal_factors.specs.FactorSpans.{IsKey};
 ghost use Rattle.state_proofs.specs.StateProofs.{IsStateProof};
 ghost use Rattle.cnec_rows.specs.RowNumbers.{row_on, stated_of, keyed_zones, of_core, spans_from, proof_from, row_spans_of, row_proof_of, HoldNumbers, IsRightRow, AreTerms, AreRowZones};
 ghost use Rattle.cnec_rows.specs.RowParts.{HoldFrom};
+ghost use Rattle.cnec_rows.specs.RowFlows.{row_spans_on, row_proof_on, AreFlows};
 
-use crate::factors::{core_factors, factor_spans, reference_flow};
-use crate::types::{RowProof, RowSpans, RowTerms, RowZones};
+use crate::factors::{core_factors, directed, directed_factors};
+use crate::flows::branch_flows;
+use crate::types::{BranchFlows, RowProof, RowSpans, RowTerms, RowZones};
 use cnec_selection::{classify, zone_to_zone};
 use domain_rows::bracket;
 use fb_span::Span;
@@ -95,6 +97,39 @@ pub fn proof_from(
     })
 }
 
+/// The spans of a row's numbers, and the row of the domain, from the flows of its branch in its grid state, which are turned into
+/// the row's direction. Each span holds the exact number, the class is right, and the two right sides bracket the exact flow.
+///
+/// The state is one of the grid and within the range rule. (Core day-ahead capacity calculation methodology, ACER decision 02-2019,
+/// annex I.)
+pub fn row_on(
+    alloc: Global,
+    state: &State,
+    grid: &Grid,
+    _columns: &Items<Column>,
+    zones: &RowZones,
+    terms: &RowTerms,
+    flows: &BranchFlows,
+) -> Result<(RowSpans, RowProof), AllocError>
+    requires of_grid { IsOfGrid grid.now state.now }
+    requires range { IsInRange grid.now state.now }
+    requires zones { AreRowZones _columns.now zones.now }
+    requires terms { AreTerms terms.now }
+    requires flows { AreFlows state.now grid.now _columns.now terms.now.branch flows.now }
+    ensures spans { IfOk result (λ row. row.0 ≡ row_spans_on zones.now terms.now flows.now) }
+    ensures row { IfOk result (λ row. row.1 ≡ row_proof_on zones.now terms.now flows.now) }
+    ensures holds { IfOk result (λ row. ForBranch grid.now terms.now.branch (λ c. HoldNumbers state.now grid.now (keyed_zones _columns.now zones.now) (row_on terms.now c) row.0)) }
+    ensures right { IfOk result (λ row. ForBranch grid.now terms.now.branch (λ c. IsRightRow state.now grid.now _columns.now zones.now (row_on terms.now c) terms.now.threshold row.1)) }
+{
+    bracketing(state, grid);
+    let fref = directed(terms.against, flows.reference);
+    let factors = directed_factors(alloc, terms.against, &flows.factors)?;
+    let core = core_factors(alloc, &zones.core, &factors)?;
+    let spans = spans_from(zones, terms, fref, &factors, &core);
+    let row = proof_from(alloc, zones, terms, &core, spans.ram, spans.spread)?;
+    Ok((spans, row))
+}
+
 /// The spans of a row's numbers, and the row of the domain, from the proof of its grid state. Each span holds the exact number, the
 /// class is right, and the two right sides bracket the exact flow.
 ///
@@ -121,19 +156,6 @@ pub fn row_numbers(
     ensures holds { IfOk result (λ row. ForBranch grid.now terms.now.branch (λ c. HoldNumbers state.now grid.now (keyed_zones columns.now zones.now) (row_on terms.now c) row.0)) }
     ensures right { IfOk result (λ row. ForBranch grid.now terms.now.branch (λ c. IsRightRow state.now grid.now columns.now zones.now (row_on terms.now c) terms.now.threshold row.1)) }
 {
-    bracketing(state, grid);
-    let fref = reference_flow(state, grid, terms.branch, terms.against, proof);
-    let factors = factor_spans(
-        alloc,
-        state,
-        grid,
-        terms.branch,
-        terms.against,
-        columns,
-        proof,
-    )?;
-    let core = core_factors(alloc, &zones.core, &factors)?;
-    let spans = spans_from(zones, terms, fref, &factors, &core);
-    let row = proof_from(alloc, zones, terms, &core, spans.ram, spans.spread)?;
-    Ok((spans, row))
+    let flows = branch_flows(alloc, state, grid, columns, terms.branch, proof)?;
+    row_on(alloc, state, grid, columns, zones, terms, &flows)
 }

@@ -36,6 +36,15 @@ pub struct RowZones {
     pub bounds: Items<Bounds>,
 }
 
+/// The flows of a branch in a grid state, from its first node to its second, as spans. Each holds the exact number.
+#[derive(Debug, Drop)]
+pub struct BranchFlows {
+    /// The reference flow, in picowatts.
+    pub reference: Span<i128>,
+    /// The factors of all zones, in 10^-12.
+    pub factors: Items<Span<i128>>,
+}
+
 /// The spans of a row's numbers. Each holds the exact number.
 #[derive(Clone, Copy, Debug)]
 pub struct RowSpans {
