@@ -12,21 +12,22 @@ use Rattle.cnec_rows.specs.declared.types.RowSpans.{RowSpans}
 use Rattle.state_proofs.specs.StateProofs.{IsStateProof}
 use Rattle.state_proofs.specs.declared.StateProof.{StateProof}
 use Rattle.fb_certificate.specs.CracRows.{crac_rows}
+use Rattle.fb_certificate.specs.RowsMade.{IsMadeBy, IsProofAt}
 use Rattle.fb_certificate.specs.RunRows.{run_row, run_rows}
 use Rattle.fb_certificate.specs.Valid.{AreNumbersOf, AreRowsOf, IsRowOf}
 use Rattle.fb_certificate.specs.Whole.{IsWhole}
+use Rattle.fb_certificate.specs.declared.made.MadeRow.{MadeRow}
 use Rattle.fb_certificate.specs.declared.types.Inputs.{Inputs}
 use Rattle.fb_certificate.specs.declared.types.RunRow.{RunRow}
-use Rattle.fb_certificate.proofs.NumberLaws.{state_within}
+use Rattle.fb_certificate.proofs.NumberLaws.{state_within, there}
 use Rattle.fb_certificate.proofs.RunLaws.{listed}
 use Rattle.fb_certificate.proofs.WholeLaws.{zip_length}
 use Rattle.number_groups.specs.Groups.{AreGroups, beside}
 use Rattle.number_groups.proofs.GroupLaws.{beside_length}
 use Rattle.number_groups.proofs.BesideLaws.{beside_all, beside_joined}
 use Rattle.domain_maker.specs.Domains.{AreSpansOf}
-use Rattle.domain_maker.specs.Made.{AreMade, AreMadeAt, AreRowsByState, IsMadeBy, IsProofAt, state_numbers}
-use Rattle.domain_maker.specs.declared.row.MadeRow.{MadeRow}
-use Rattle.domain_maker.proofs.Zips.{there, zip_from_map, zip_to_map, zip_weaker}
+use Rattle.domain_maker.specs.Made.{AreMade, AreMadeAt, AreRowsByState, state_numbers}
+use Rattle.domain_maker.proofs.Zips.{zip_from_map, zip_to_map, zip_weaker}
 
 -- ---- the states of rows
 
@@ -103,7 +104,7 @@ all_made_rows inputs whole groups by_state mades given made long dealt = record 
   proofs = proofs;
   proved = proofs_from inputs inputs.states proofs 0 (λ i s e. ap (slice_get inputs.states) (omega arith) ∙ e) are;
   each = zip_weaker (λ c m. IsGiven inputs proofs (run_row inputs c).state (run_row inputs c) m) (λ c m. AreNumbersOf inputs proofs c m.spans m.numbers)
-      (λ c m h. h.gives c refl proofs h.stands) (crac_rows inputs.crac.elements) made
+      (λ c m h. h.gives.numbers c refl proofs h.stands) (crac_rows inputs.crac.elements) made
       (zip_from_map (λ row m. IsGiven inputs proofs row.state row m) (run_row inputs) (crac_rows inputs.crac.elements) made joined);
 }
   where

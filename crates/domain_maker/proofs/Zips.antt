@@ -1,15 +1,7 @@
 -- Relations between the items of two lists, place by place.
-use Rattle.std.proofs.Common.{◌≡◌, ℕ, zero, suc, ◌+◌, ◌<◌, List, [], ◌∷◌, ◌++◌, length, map, take, get_or, Some, refl, sym, ap, subst, ◌∙◌, map-id, arith}
-use Rattle.std.specs.Prelude.{slice_get}
+use Rattle.std.proofs.Common.{◌≡◌, ℕ, ◌+◌, List, [], ◌∷◌, ◌++◌, map, sym, ap, ◌∙◌, map-id, arith}
 use Rattle.std.specs.List.{AllZip, range_with_len}
-use Rattle.std.proofs.lemmas.List.{take_more}
 use Rattle.std.proofs.lemmas.List.FromFn.{map-range_with_len_more}
-use Rattle.fb_certificate.proofs.WholeLaws.{zip_push}
-
-pub there : {X : Type 0} (xs : List X) (i : ℕ) → i < length xs → (x : X) × (slice_get xs i ≡ Some x)
-there [] i l = absurd (omega arith)
-there (x ∷ xs) zero l = (x, refl)
-there (x ∷ xs) (suc i) l = there xs i (omega arith)
 
 pub zip_weaker : {X Y : Type 0} (R Q : X → Y → Type 0) → ((x : X) (y : Y) → R x y → Q x y) → (xs : List X) (ys : List Y) → AllZip R xs ys → AllZip Q xs ys
 zip_weaker R Q f [] [] h = tt
@@ -30,13 +22,6 @@ zip_to_map R f [] [] h = tt
 zip_to_map R f [] (y ∷ ys) h = absurd h
 zip_to_map R f (x ∷ xs) [] h = absurd h
 zip_to_map R f (x ∷ xs) (y ∷ ys) h = (h.0, zip_to_map R f xs ys h.1)
-
--- one pair more, with the item that is read of the first list
-pub zip_next : {X Y : Type 0} (R : X → Y → Type 0) (xs : List X) (k : ℕ) (d : X) (before after : List Y) (y : Y) → k < length xs → AllZip R (take k xs) before → R (get_or xs k d) y → after ≡ before ++ y ∷ [] → AllZip R (take (k + 1) xs) after
-zip_next {X} {Y} R xs k d before after y l so_far here pushed =
-    subst (λ (ys : List Y). AllZip R (take (k + 1) xs) ys) (sym pushed)
-    (subst (λ (zs : List X). AllZip R zs (before ++ y ∷ [])) (sym (take_more xs k d l))
-    (zip_push R (take k xs) before (get_or xs k d) y so_far here))
 
 -- the numbers below one more
 pub range_next : (n : ℕ) → range_with_len 0 (n + 1) ≡ range_with_len 0 n ++ n ∷ []

@@ -1,29 +1,17 @@
 -- Words of private contracts on rows that are made state by state. Nobody need believe them.
-use Rattle.std.specs.Prelude.{◌≡◌, ℕ, List, Some, length, map, slice_get, IfSome}
+use Rattle.std.specs.Prelude.{◌≡◌, ℕ, List, length, map}
 use Rattle.std.specs.List.{AllZip}
 use Rattle.cnec_rows.specs.declared.types.RowZones.{RowZones}
-use Rattle.state_proofs.specs.StateProofs.{IsStateProof}
 use Rattle.state_proofs.specs.declared.StateProof.{StateProof}
-use Rattle.fb_certificate.specs.CracRows.{CracRow, crac_rows, state_of_row}
-use Rattle.fb_certificate.specs.RunRows.{run_row, run_rows}
+use Rattle.fb_certificate.specs.CracRows.{crac_rows}
+use Rattle.fb_certificate.specs.RowsMade.{IsMadeBy, IsProofAt}
+use Rattle.fb_certificate.specs.RunRows.{run_rows}
 use Rattle.fb_certificate.specs.Valid.{AreNumbersOf, AreProofs}
 use Rattle.fb_certificate.specs.Whole.{IsWhole, row_zones}
+use Rattle.fb_certificate.specs.declared.made.MadeRow.{MadeRow}
 use Rattle.fb_certificate.specs.declared.types.Inputs.{Inputs}
 use Rattle.fb_certificate.specs.declared.types.RunRow.{RunRow}
 use Rattle.number_groups.specs.Groups.{AreGroups}
-use Rattle.domain_maker.specs.declared.row.MadeRow.{MadeRow}
-
--- the proof is one of the state with this number
-abbrev pub IsProofAt : Inputs → ℕ → StateProof → Type 0
-IsProofAt inputs number proof =
-    IfSome (slice_get inputs.states number) (λ s. IsStateProof s inputs.grid inputs.keys.columns proof)
-
--- the numbers of a row are those that the proof gives, wherever it stands at the row's state
-abbrev pub IsMadeBy : Inputs → StateProof → RunRow → MadeRow → Type 0
-IsMadeBy inputs proof row made =
-    (c : CracRow) → run_row inputs c ≡ row
-    → (proofs : List StateProof) → slice_get proofs (state_of_row inputs.outages c) ≡ Some proof
-    → AreNumbersOf inputs proofs c made.spans made.numbers
 
 -- one proof of the state with this number gives the numbers of all the rows
 pub record AreMadeAt (inputs : Inputs) (number : ℕ) (rows : List RunRow) (made : List MadeRow) : Type 0 where

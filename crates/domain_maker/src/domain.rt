@@ -5,10 +5,9 @@ ghost use Rattle.fb_certificate.specs.Whole.{IsWhole};
 ghost use Rattle.domain_maker.specs.Domains.{IsDomainOf};
 
 use crate::removed::removed;
-use crate::row::MadeRow;
 use crate::state_rows::made_rows;
 use fan_out::Gate;
-use fb_certificate::{Certificate, Inputs, RowProof, RowSpans};
+use fb_certificate::{Certificate, Inputs, MadeRow, RowProof, RowSpans};
 use fb_types::Items;
 use row_removal::DomainList;
 use std::alloc::{AllocError, Global};

@@ -8,7 +8,6 @@ ghost use Rattle.fb_certificate.specs.Whole.{IsWhole};
 
 mod domain;
 mod removed;
-mod row;
 mod state_rows;
 mod states;
 

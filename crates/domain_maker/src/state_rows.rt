@@ -5,11 +5,10 @@ ghost use Rattle.std.specs.List.{AllZip, range_with_len};
 ghost use Rattle.fb_certificate.specs.Whole.{IsWhole};
 ghost use Rattle.domain_maker.specs.Made.{AreMade, AreMadeAt, AreReady, AreRowsByState};
 
-use crate::row::{MadeRow, rows_from};
 use crate::states::groundwork_of;
 use cnec_rows::RowZones;
 use fan_out::{Gate, Work, all_made, fan};
-use fb_certificate::{Inputs, RunRow, row_zones, run_rows};
+use fb_certificate::{Inputs, MadeRow, RunRow, row_zones, run_rows, state_rows};
 use fb_types::Items;
 use number_groups::{grouped, regrouped};
 use state_proofs::{Groundwork, prove_after};
@@ -48,7 +47,7 @@ impl<'a> Work for RowMaker<'a> {
             &inputs.keys.columns,
         )?;
         let rows = self.groups[place].as_slice();
-        rows_from(alloc, inputs, self.zones, &proof, rows)
+        state_rows(alloc, inputs, self.zones, &proof, rows)
     }
 }
 

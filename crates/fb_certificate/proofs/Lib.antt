@@ -3,3 +3,4 @@ pub mod RunLaws
 pub mod IndexLaws
 pub mod NumberLaws
 pub mod Theorem
+pub mod FlowLaws

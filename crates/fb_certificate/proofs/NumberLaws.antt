@@ -1,12 +1,10 @@
 -- The numbers of a row, found by its grid state, its zones and what is stated of it.
-use Rattle.std.proofs.Common.{◌≡◌, ℕ, zero, suc, ◌<◌, Bool, true, List, [], ◌∷◌, length, get_or, Option, Some, None, ℤ, refl, sym, ap, subst, ◌∙◌, arith}
-use Rattle.std.specs.Prelude.{Result, Ok, Err, IfOk, IfSome, is_some, slice_get}
+use Rattle.std.proofs.Common.{◌≡◌, ℕ, zero, suc, ◌<◌, List, [], ◌∷◌, length, get_or, Some, refl, sym, ap, subst, ◌∙◌, arith}
+use Rattle.std.specs.Prelude.{Result, Ok, Err, IfOk, slice_get}
 use Rattle.std.proofs.lemmas.Option.{slice_get_read, same_Some}
-use Rattle.fb_types.specs.declared.crac.Element.{Element}
 use Rattle.grid_state.specs.GridState.{GridState}
 use Rattle.branch_spans.specs.FlowSpans.{ForBranch}
 use Rattle.security.specs.Secure.{RowPlace}
-use Rattle.run_settings.specs.Reductions.{limit_in, is_limited}
 use Rattle.state_proofs.specs.StateProofs.{IsStateProof}
 use Rattle.state_proofs.specs.declared.StateProof.{StateProof}
 use Rattle.cnec_rows.specs.RowNumbers.{keyed_zones, row_on, row_spans_of, row_proof_of, HoldNumbers, IsRightRow, AreTerms}
@@ -15,7 +13,7 @@ use Rattle.cnec_rows.specs.declared.types.RowZones.{RowZones}
 use Rattle.cnec_rows.specs.declared.types.RowSpans.{RowSpans}
 use Rattle.cnec_rows.specs.declared.types.RowProof.{RowProof}
 use Rattle.fb_certificate.specs.Capacity.{HoldRow, IsRight}
-use Rattle.fb_certificate.specs.CracRows.{CracRow, state_number, state_of_row}
+use Rattle.fb_certificate.specs.CracRows.{CracRow, state_of_row}
 use Rattle.fb_certificate.specs.RunRows.{run_row}
 use Rattle.fb_certificate.specs.Situations.{zones_in, exact_row, branch_of, stated}
 use Rattle.fb_certificate.specs.Valid.{AreNumbersOf, AreProofs}
@@ -25,7 +23,7 @@ use Rattle.fb_certificate.proofs.WholeLaws.{zip_length, element_fits, state_belo
 use Rattle.fb_certificate.specs.declared.types.Inputs.{Inputs}
 use Rattle.fb_certificate.specs.declared.types.RunRow.{RunRow}
 
-there : {X : Type 0} (xs : List X) (i : ℕ) → i < length xs → (x : X) × (slice_get xs i ≡ Some x)
+pub there : {X : Type 0} (xs : List X) (i : ℕ) → i < length xs → (x : X) × (slice_get xs i ≡ Some x)
 there [] i l = absurd (omega arith)
 there (x ∷ xs) zero l = (x, refl)
 there (x ∷ xs) (suc i) l = there xs i (omega arith)

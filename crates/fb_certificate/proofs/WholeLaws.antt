@@ -66,6 +66,14 @@ zip_more {X} {Y} R xs k x before after y l read so_far here pushed =
     (subst (λ (zs : List X). AllZip R zs (before ++ y ∷ [])) (sym (take_more xs k x l ∙ ap (λ (z : X). take k xs ++ z ∷ []) (sym read)))
     (zip_push R (take k xs) before x y so_far here))
 
+-- the same, with the item that is read of the first list
+pub zip_next : {X Y : Type 0} (R : X → Y → Type 0) (xs : List X) (k : ℕ) (d : X) (before after : List Y) (y : Y) → k < length xs → AllZip R (take k xs) before → R (get_or xs k d) y → after ≡ before ++ y ∷ []
+    → AllZip R (take (k + 1) xs) after
+zip_next {X} {Y} R xs k d before after y l so_far here pushed =
+    subst (λ (ys : List Y). AllZip R (take (k + 1) xs) ys) (sym pushed)
+    (subst (λ (zs : List X). AllZip R zs (before ++ y ∷ [])) (sym (take_more xs k d l))
+    (zip_push R (take k xs) before (get_or xs k d) y so_far here))
+
 -- ---- keys
 
 -- a column of a key document is a key

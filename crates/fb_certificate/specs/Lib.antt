@@ -7,3 +7,4 @@ pub mod Capacity
 pub mod Thin
 pub mod RunRows
 pub mod RowIndices
+pub mod RowsMade

@@ -2,6 +2,7 @@
 #![tactic(auto)]
 
 mod indices;
+mod made;
 mod row;
 mod run;
 mod terms;
@@ -9,6 +10,7 @@ mod types;
 mod zones;
 
 pub use cnec_rows::{RowProof, RowSpans, RowZones};
+pub use made::{MadeRow, state_rows};
 pub use row::{make_rows, row_at, row_of};
 pub use run::run_rows;
 pub use state_proofs::StateProof;

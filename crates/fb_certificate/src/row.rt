@@ -1,21 +1,47 @@
 //! The numbers of rows.
 
-ghost use Rattle.std.specs.Prelude.{◌≡◌, ◌≤◌, length, Some, IfOk};
+ghost use Rattle.std.specs.Prelude.{◌≡◌, ◌≤◌, length, Some, IfOk, IfSome};
 ghost use Rattle.std.specs.List.{AllZip, Contains};
 ghost use Rattle.fb_certificate.specs.Capacity.{HoldRow, IsRight};
 ghost use Rattle.fb_certificate.specs.CracRows.{CracRow, crac_rows};
 ghost use Rattle.fb_certificate.specs.Lists.{numbered};
+ghost use Rattle.fb_certificate.specs.RowsMade.{AreFlowsIn};
 ghost use Rattle.fb_certificate.specs.RunRows.{run_row, run_rows};
 ghost use Rattle.fb_certificate.specs.Valid.{AreProofs, AreNumbersOf, AreRowsOf};
 ghost use Rattle.fb_certificate.specs.Whole.{IsWhole, row_zones};
 
+use crate::made::{MadeRow, StateFlows, row_after};
 use crate::run::run_rows;
 use crate::types::{Inputs, RunRow};
 use crate::zones::row_zones;
-use cnec_rows::{RowProof, RowSpans, RowZones, row_numbers};
+use cnec_rows::{RowProof, RowSpans, RowZones};
 use fb_types::Items;
 use state_proofs::StateProof;
 use std::alloc::{AllocError, Global};
+
+/// The numbers of a row of the run, from the proofs of the states, and the flows of its branch. The flows that were made last are
+/// taken where they are of the row's branch and state.
+fn row_among(
+    alloc: Global,
+    inputs: &Inputs,
+    states: &Items<StateProof>,
+    zones: &RowZones,
+    row: &RunRow,
+    last: Option<StateFlows>,
+) -> Result<(MadeRow, StateFlows), AllocError>
+    requires whole { IsWhole inputs.now }
+    requires proofs { AreProofs inputs.now states.now }
+    requires zones { zones.now ≡ row_zones inputs.now.settings inputs.now.keys }
+    requires listed { Contains (run_rows inputs.now) row.now }
+    requires last { IfSome last (AreFlowsIn inputs.now states.now) }
+    ensures numbers { IfOk result (λ found. (c : CracRow) → run_row inputs.now c ≡ row.now → AreNumbersOf inputs.now states.now c found.0.spans found.0.numbers) }
+    ensures holds { IfOk result (λ found. (c : CracRow) → run_row inputs.now c ≡ row.now → HoldRow inputs.now c found.0.spans) }
+    ensures right { IfOk result (λ found. (c : CracRow) → run_row inputs.now c ≡ row.now → IsRight inputs.now c found.0.numbers) }
+    ensures flows { IfOk result (λ found. AreFlowsIn inputs.now states.now found.1) }
+{
+    let proof = &states.as_slice()[row.state as usize];
+    row_after(alloc, inputs, zones, proof, row, last)
+}
 
 /// The numbers of a row of the run, and the row of the domain, from the proofs of the states: one for each state of the
 /// inputs. The zones are those that rows see.
@@ -36,18 +62,8 @@ pub fn row_of(
     ensures holds { IfOk result (λ found. (c : CracRow) → run_row inputs.now c ≡ row.now → HoldRow inputs.now c found.0) }
     ensures right { IfOk result (λ found. (c : CracRow) → run_row inputs.now c ≡ row.now → IsRight inputs.now c found.1) }
 {
-    let number = row.state as usize;
-    let state = &inputs.states.as_slice()[number];
-    let proof = &states.as_slice()[number];
-    row_numbers(
-        alloc,
-        state,
-        &inputs.grid,
-        &inputs.keys.columns,
-        zones,
-        &row.terms,
-        proof,
-    )
+    let (made, _) = row_among(alloc, inputs, states, zones, row, None)?;
+    Ok((made.spans, made.numbers))
 }
 
 /// The numbers of the row with this number, from 1, and the row of the domain, from the proofs of the states: one for each
@@ -89,9 +105,11 @@ pub fn make_rows(
     let zones = row_zones(alloc, &inputs.settings, &inputs.keys)?;
     let rows = run_rows(alloc, inputs)?;
     let mut made = Items::new(alloc);
+    let mut last = None;
     for row in rows.as_slice() {
-        let (_, numbers) = row_of(alloc, inputs, states, &zones, row)?;
-        made.add(numbers)?;
+        let (found, flows) = row_among(alloc, inputs, states, &zones, row, last)?;
+        made.add(found.numbers)?;
+        last = Some(flows);
     }
     Ok(made)
 }

@@ -1,4 +1,4 @@
-use Rattle.std.proofs.Common.{◌<◌, List, length, subst, ap, sym, ◌∙◌, arith}
+use Rattle.std.proofs.Common.{◌<◌, length, ap, sym, ◌∙◌, arith}
 use Rattle.std.proofs.lemmas.List.{length-map}
 use Rattle.fb_certificate.specs.Capacity.{IsRight}
 use Rattle.fb_certificate.specs.CracRows.{crac_rows}
@@ -18,8 +18,9 @@ loop-row-preserved c =
     let row = crac_row_at rows k below in
     let is = run_row_at inputs c.as_slice-row-items.result.now k row.0 _ same below row.1 in
     record {
-      numbers = zip_more (IsRowOf inputs c.args.states.now) rows k row.0 c.loop-row.made c.add.new.self c.in_ok-numbers.numbers below (sym row.1) c.loop-row.invariant.numbers
-          (record { spans = c.in_ok-numbers.field-0-0; are = c.in_ok-numbers.ensures.numbers row.0 is }) c.in_ok-add.ensures.pushed;
-      right = zip_more (IsRight inputs) rows k row.0 c.loop-row.made c.add.new.self c.in_ok-numbers.numbers below (sym row.1) c.loop-row.invariant.right
-          (c.in_ok-numbers.ensures.right row.0 is) c.in_ok-add.ensures.pushed;
+      numbers = zip_more (IsRowOf inputs c.args.states.now) rows k row.0 c.loop-row.made c.add.new.self c.in_ok-found.found.numbers below (sym row.1) c.loop-row.invariant.numbers
+          (record { spans = c.in_ok-found.found.spans; are = c.in_ok-found.ensures.numbers row.0 is }) c.in_ok-add.ensures.pushed;
+      right = zip_more (IsRight inputs) rows k row.0 c.loop-row.made c.add.new.self c.in_ok-found.found.numbers below (sym row.1) c.loop-row.invariant.right
+          (c.in_ok-found.ensures.right row.0 is) c.in_ok-add.ensures.pushed;
+      last = c.in_ok-found.ensures.flows;
     }
