@@ -18,7 +18,7 @@ use cite_index::Cites;
 use columns::put_header;
 use csv_rows::{Fields, Table};
 use fb_certificate::{Certificate, Inputs, RunRow, run_rows};
-pub use rows::{class_word, contingency_id};
+pub use rows::{class_word, contingency_id, direction_word};
 use rows::{put_labels, put_proof};
 pub use standing::citation_text;
 use std::alloc::{AllocError, Global};

@@ -44,7 +44,8 @@ pub fn contingency_id(contingencies: &[Contingency], contingency: Option<u32>) -
     }
 }
 
-fn direction_word(opposite: bool) -> &'static str
+/// The word of a direction.
+pub fn direction_word(opposite: bool) -> &'static str
     ensures { result.now ≡ direction_word opposite }
 {
     if opposite { "OPPOSITE" } else { "DIRECT" }

@@ -1,7 +1,7 @@
 -- The trees of the rows of a run, one after another.
-use Rattle.std.proofs.Common.{◌≡◌, ℕ, ◌+◌, ◌<◌, ◌≤◌, Bool, true, false, List, [], ◌∷◌, ◌++◌, length, map, take, get_or, Some, refl, sym, ap, ◌∙◌, arith}
+use Rattle.std.proofs.Common.{◌≡◌, ℕ, ◌+◌, ◌<◌, Bool, true, false, List, length, map, get_or, Some, refl, sym, ap, ◌∙◌, arith}
 use Rattle.std.specs.List.{enumerate_from, zip}
-use Rattle.std.proofs.lemmas.List.{length-map, get_or-map, map_push, take_all, take_more}
+use Rattle.std.proofs.lemmas.List.{length-map, get_or-map}
 use Rattle.std.proofs.lemmas.List.FromFn.{length-enumerate_from, get_or-enumerate_from}
 use Rattle.std.proofs.lemmas.Option.{get_or_from_slice_get}
 use Rattle.std.proofs.lemmas.Slice.Zip.{get_or-zip, length-zip}
@@ -41,17 +41,22 @@ module _ (inputs : Inputs) (numbers : List RowProof) (spans : List RowSpans)
       let pairs = zip numbers spans in
       omega (arith, long, as_long, length-enumerate_from 1 rows, length-zip numbers spans, length-zip places pairs)
 
-  -- the text of one row more
-  pub text_added : (k : ℕ) (row : RunRow) (n : RowProof) (s : RowSpans) (element : Element) (text : List ℕ)
-      (texts new : List (List ℕ))
+  abbrev texts : List (List ℕ)
+  texts = map compact_text (row_trees (crac_rows inputs.crac.elements) numbers spans)
+
+  pub many_texts : length texts ≡ length (run_rows inputs)
+  many_texts =
+      let rows = crac_rows inputs.crac.elements in
+      omega (arith, many, length-map rows (run_row inputs), length-map entries tree_of, length-map (row_trees rows numbers spans) compact_text)
+
+  -- the text of the row at a place
+  pub text_at : (k : ℕ) (row : RunRow) (n : RowProof) (s : RowSpans) (element : Element) (text : List ℕ)
       → k < length (run_rows inputs) → row ≡ get_or (run_rows inputs) k row → n ≡ get_or numbers k n
       → s ≡ get_or spans k s
       → element ≡ get_or inputs.crac.elements row.element element
       → text ≡ compact_text (row_tree (k + 1) element (is_opposite row.direction) n s)
-      → texts ≡ map compact_text (take k (row_trees (crac_rows inputs.crac.elements) numbers spans))
-      → new ≡ texts ++ text ∷ []
-      → new ≡ map compact_text (take (k + 1) (row_trees (crac_rows inputs.crac.elements) numbers spans))
-  text_added k row n s element text texts new within row_is n_is s_is element_is text_is was is =
+      → text ≡ get_or texts k text
+  text_at k row n s element text within row_is n_is s_is element_is text_is =
       let rows = crac_rows inputs.crac.elements in
       let below : k < length rows = let l = length-map rows (run_row inputs) in omega (arith, l, within) in
       let numbered : k < length (enumerate_from 1 rows) =
@@ -83,18 +88,5 @@ module _ (inputs : Inputs) (numbers : List RowProof) (spans : List RowSpans)
       let text_here : text ≡ compact_text (tree_of this) =
       text_is ∙ (λ i. compact_text (row_tree (k + 1) (same_element i) (same_direction i) n s)) in
       let l = length-map entries tree_of in
-      is ∙ (λ i. was i ++ text_here i ∷ [])
-      ∙ sym (map_push compact_text (take k (row_trees rows numbers spans)) (tree_of this))
-      ∙ ap (λ (d : Data). map compact_text (take k (row_trees rows numbers spans) ++ d ∷ [])) (sym tree)
-      ∙ ap (map compact_text)
-      (sym (take_more (row_trees rows numbers spans) k (tree_of this) (omega (arith, l, here))))
-
-  -- the texts of all rows
-  pub texts_done : (k : ℕ) (texts : List (List ℕ)) → length (run_rows inputs) ≤ k
-      → texts ≡ map compact_text (take k (row_trees (crac_rows inputs.crac.elements) numbers spans))
-      → texts ≡ map compact_text (row_trees (crac_rows inputs.crac.elements) numbers spans)
-  texts_done k texts past was =
-      let rows = crac_rows inputs.crac.elements in
-      was ∙ ap (map compact_text)
-      (take_all k (row_trees rows numbers spans)
-      (omega (arith, past, many, length-map rows (run_row inputs), length-map entries tree_of)))
+      text_here ∙ ap compact_text (sym tree)
+      ∙ sym (get_or-map compact_text (row_trees rows numbers spans) k (tree_of this) text (omega (arith, l, here)))

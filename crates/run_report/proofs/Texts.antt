@@ -1,5 +1,5 @@
 -- The texts of a report and of a summary are those of their pieces, one after another.
-use Rattle.std.proofs.Common.{◌≡◌, ℕ, ◌+◌, ◌<◌, ℤ, pos, negsuc, Bool, true, false, List, [], ◌∷◌, ◌++◌, length, map, take, get_or, refl, sym, ap, ◌∙◌, arith, append_assoc}
+use Rattle.std.proofs.Common.{◌≡◌, ℕ, ◌+◌, ◌<◌, ℤ, pos, negsuc, Bool, true, false, List, [], ◌∷◌, ◌++◌, length, map, take, get_or, refl, sym, ap, ◌∙◌, arith, append_assoc, zero, suc}
 use Rattle.std.specs.Prelude.{codes, decimal}
 use Rattle.std.specs.Fmt.{signed_decimal}
 use Rattle.std.proofs.lemmas.List.{append-nil, length-take, take_more}
@@ -61,6 +61,30 @@ module _ (items : List (List ℕ)) (k : ℕ) (d old text new : List ℕ) (l : k 
       ∙ append_assoc old (joined false (take k items)) (44 ∷ get_or items k d)
       ∙ ap (λ t. old ++ t) (sym (joined_after (take k items) (get_or items k d) front))
       ∙ ap (λ xs. old ++ joined false xs) (sym (take_more items k d l))
+
+pub joined_next : (items : List (List ℕ)) (k : ℕ) (d old text new : List ℕ) → k < length items
+    → text ≡ old ++ joined false (take k items)
+    → (k ≡ 0 → new ≡ text ++ get_or items k d) → (0 < k → new ≡ (text ++ 44 ∷ []) ++ get_or items k d)
+    → new ≡ old ++ joined false (take (k + 1) items)
+joined_next items zero d old text new l was first more = joined_first items 0 d old text new l was refl (first refl)
+joined_next items (suc k) d old text new l was first more =
+    joined_more items (suc k) d old text new l was (omega arith) (more (omega arith))
+
+-- the pieces of a line, one behind another
+pub line_joined : (classes inner notes outer rows : List ℕ)
+    → ((classes ++ (inner ++ (notes ++ (outer ++ 91 ∷ [])))) ++ rows) ++ 93 ∷ 125 ∷ 10 ∷ []
+    ≡ classes ++ (inner ++ (notes ++ (outer ++ ((91 ∷ (rows ++ 93 ∷ [])) ++ 125 ∷ 10 ∷ []))))
+line_joined classes inner notes outer rows =
+    let behind : List ℕ = rows ++ 93 ∷ 125 ∷ 10 ∷ [] in
+    append_assoc (classes ++ (inner ++ (notes ++ (outer ++ 91 ∷ [])))) rows (93 ∷ 125 ∷ 10 ∷ [])
+    ∙ append_assoc classes (inner ++ (notes ++ (outer ++ 91 ∷ []))) behind
+    ∙ ap (λ t. classes ++ t)
+    (append_assoc inner (notes ++ (outer ++ 91 ∷ [])) behind
+    ∙ ap (λ t. inner ++ t)
+    (append_assoc notes (outer ++ 91 ∷ []) behind
+    ∙ ap (λ t. notes ++ t)
+    (append_assoc outer (91 ∷ []) behind
+    ∙ ap (λ t. outer ++ 91 ∷ t) (sym (append_assoc rows (93 ∷ []) (125 ∷ 10 ∷ []))))))
 
 -- ---- numbers
 

@@ -68,6 +68,10 @@ outer_text s =
     codes ",\"outerKept\":" ++ (decimal s.outer_kept ++ (codes ",\"outerRemoved\":" ++ (decimal s.outer_removed
     ++ codes ",\"rows\":")))
 
+-- all before the rows
+abbrev pub head_text : Summary → List ℕ → List ℕ
+head_text s notes = classes_text s ++ (inner_text s ++ (notes ++ (outer_text s ++ 91 ∷ [])))
+
 abbrev pub line_text : Summary → List ℕ → List ℕ → List ℕ
 line_text s notes rows = classes_text s ++ (inner_text s ++ (notes ++ (outer_text s ++ (rows ++ 125 ∷ 10 ∷ []))))
 

@@ -1,6 +1,6 @@
 //! Pieces of compact JSON.
 
-ghost use Rattle.std.specs.Prelude.{◌≡◌, ◌++◌, false, IfOk, OnOk, string_bytes};
+ghost use Rattle.std.specs.Prelude.{◌≡◌, ◌<◌, ◌++◌, [], ◌∷◌, false, IfOk, OnOk, string_bytes};
 ghost use Rattle.serde_json.specs.Data.{string};
 ghost use Rattle.serde_json.specs.Written.{compact_text};
 ghost use Rattle.run_report.specs.Lines.{array_text, joined};
@@ -60,10 +60,19 @@ fn put_items(text: &mut String, items: &[Text]) -> Result<(), AllocError>
     ensures { OnOk result (string_bytes text.new ≡ string_bytes text.old ++ joined false items.now) }
 {
     for (place, item) in items.iter().enumerate() {
-        if place > 0 {
-            text.push(',')?;
-        }
-        text.push_str(item.as_text())?;
+        put_item(text, place, item.as_text())?;
     }
     Ok(())
+}
+
+/// Appends the item at a place of an array, with a comma before it where it is not the first.
+pub(crate) fn put_item(text: &mut String, place: usize, item: &str) -> Result<(), AllocError>
+    ensures first { OnOk result (place ≡ 0 → string_bytes text.new ≡ string_bytes text.old ++ item.now) }
+    ensures more { OnOk result (0 < place → string_bytes text.new ≡ (string_bytes text.old ++ 44 ∷ []) ++ item.now) }
+{
+    if place == 0 {
+        return text.push_str(item);
+    }
+    text.push_str(",")?;
+    text.push_str(item)
 }

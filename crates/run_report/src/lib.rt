@@ -6,7 +6,7 @@ ghost use Rattle.run_settings.specs.Laws.{core_bounds};
 ghost use Rattle.fb_certificate.specs.CracRows.{crac_rows};
 ghost use Rattle.fb_certificate.specs.Lists.{AreCites, inner_list, outer_list};
 ghost use Rattle.fb_certificate.specs.Whole.{IsWhole};
-ghost use Rattle.run_report.specs.Lines.{classes_text, gap_text, inner_text, line_text, outer_text};
+ghost use Rattle.run_report.specs.Lines.{classes_text, gap_text, head_text, inner_text, outer_text};
 ghost use Rattle.run_report.specs.ReportTexts.{report_text};
 
 mod case_summary;
@@ -19,7 +19,7 @@ pub use case_summary::write_summary;
 use fb_certificate::{Certificate, Inputs, RowSpans};
 use json::array_text;
 use notes::notes;
-use rows::row_texts;
+use rows::put_rows;
 use std::alloc::{AllocError, Global};
 use summary::{Summary, summary_of};
 
@@ -45,28 +45,23 @@ pub fn write_report(
     requires outer { AreCites outer_list (core_bounds inputs.now.settings.zones) certificate.now.rows certificate.now.outer }
     ensures { IfOk result (λ text. text.items ≡ report_text inputs.now certificate.now spans.now) }
 {
-    let rows = row_texts(alloc, inputs, certificate, spans)?;
-    let rows = array_text(alloc, rows.as_slice())?;
     let notes = notes(alloc, inputs.grid.branches.as_slice())?;
     let notes = array_text(alloc, notes.as_slice())?;
     let summary = summary_of(inputs, certificate);
-    let text = report_line(alloc, &summary, notes.as_str(), rows.as_str())?;
-    Ok(text.into_bytes())
+    let mut line = line_head(alloc, &summary, notes.as_str())?;
+    put_rows(alloc, &mut line, inputs, certificate, spans)?;
+    line.push_str("]}\n")?;
+    Ok(line.into_bytes())
 }
 
-/// The line, from its counts, its notes and its rows.
-fn report_line(
-    alloc: Global,
-    summary: &Summary,
-    notes: &str,
-    rows: &str,
-) -> Result<String, AllocError>
-    ensures { IfOk result (λ line. string_bytes line ≡ line_text summary.now notes.now rows.now) }
+/// The line up to its rows, from its counts and its notes.
+fn line_head(alloc: Global, summary: &Summary, notes: &str) -> Result<String, AllocError>
+    ensures { IfOk result (λ head. string_bytes head ≡ head_text summary.now notes.now) }
 {
     let classes = classes(alloc, summary)?;
     let inner = inner(alloc, summary)?;
     let outer = outer(alloc, summary)?;
-    format!(in alloc; "{classes}{inner}{notes}{outer}{rows}}}\n")
+    format!(in alloc; "{classes}{inner}{notes}{outer}[")
 }
 
 /// The counts of rows by class, and the greatest gap.

@@ -1,41 +1,42 @@
 //! The rows of a report.
 
-ghost use Rattle.std.specs.Prelude.{◌≡◌, IfOk, length, map, string_bytes};
+ghost use Rattle.std.specs.Prelude.{◌≡◌, ◌++◌, false, IfOk, OnOk, length, map, string_bytes};
 ghost use Rattle.serde_json.specs.Data.{string};
 ghost use Rattle.serde_json.specs.Written.{compact_text};
 ghost use Rattle.domain_report.specs.DomainTexts.{class_word, direction_word};
 ghost use Rattle.fb_certificate.specs.CracRows.{crac_rows};
 ghost use Rattle.fb_certificate.specs.RunRows.{is_opposite};
 ghost use Rattle.fb_certificate.specs.Whole.{IsWhole};
-ghost use Rattle.run_report.specs.Lines.{labels_text, margins_text, row_text, with_text, without_text};
+ghost use Rattle.run_report.specs.Lines.{joined, labels_text, margins_text, row_text, with_text, without_text};
 ghost use Rattle.run_report.specs.ReportTexts.{ends, gap_of, row_trees, watts};
 
-use crate::json::{quoted, span_text, watts_text};
+use crate::json::{put_item, quoted, span_text, watts_text};
 use crate::summary::gap;
 use cnec_rows::RowSpans;
 use cnec_selection::Class;
-use domain_report::class_word;
+use domain_report::{class_word, direction_word};
 use fb_certificate::{Certificate, Direction, Inputs, RowProof, run_rows};
-use fb_types::{Element, Items, Text};
+use fb_types::Element;
 use std::alloc::{AllocError, Global};
 
-/// The text of each row, in the order of the run, from the spans of all rows.
-pub(crate) fn row_texts(
+/// Appends the texts of the rows, in the order of the run and with a comma between each and the next, from the spans of
+/// all rows.
+pub(crate) fn put_rows(
     alloc: Global,
+    line: &mut String,
     inputs: &Inputs,
     certificate: &Certificate,
     spans: &[RowSpans],
-) -> Result<Items<Text>, AllocError>
+) -> Result<(), AllocError>
     requires whole { IsWhole inputs.now }
     requires rows { length certificate.now.rows ≡ length (crac_rows inputs.now.crac.elements) }
     requires spans { length spans.now ≡ length (crac_rows inputs.now.crac.elements) }
-    ensures { IfOk result (λ texts. texts ≡ map compact_text
-        (row_trees (crac_rows inputs.now.crac.elements) certificate.now.rows spans.now)) }
+    ensures { OnOk result (string_bytes line.new ≡ string_bytes line.old ++ joined false (map compact_text
+        (row_trees (crac_rows inputs.now.crac.elements) certificate.now.rows spans.now))) }
 {
     let elements = inputs.crac.elements.as_slice();
     let numbers = certificate.rows.as_slice();
     let rows = run_rows(alloc, inputs)?;
-    let mut texts = Items::new(alloc);
     for (place, row) in rows.as_slice().iter().enumerate() {
         let element = &elements[row.element as usize];
         let text = row_text(
@@ -46,9 +47,9 @@ pub(crate) fn row_texts(
             &numbers[place],
             &spans[place],
         )?;
-        texts.add(Text::from_string(text))?;
+        put_item(line, place, text.as_str())?;
     }
-    Ok(texts)
+    Ok(())
 }
 
 /// The text of the row with this number, of an element in a direction, from its numbers in the certificate and its
@@ -82,7 +83,7 @@ fn labels(
         (compact_text (string (direction_word (is_opposite direction)))) (compact_text (string element.now.id))) }
 {
     let class = quoted(alloc, class_word(class))?;
-    let direction = quoted(alloc, direction_word(direction))?;
+    let direction = quoted(alloc, direction_word(direction.is_opposite()))?;
     let element = quoted(alloc, element.id.as_text())?;
     format!(in alloc; "{{\"class\":{class},\"direction\":{direction},\"element\":{element}")
 }
@@ -121,13 +122,4 @@ fn margins(
     let ram = watts_text(alloc, spans.ram)?;
     let spread = span_text(alloc, spans.spread)?;
     format!(in alloc; ",\"gap\":{gap},\"ram\":{ram},\"row\":{number},\"spread\":{spread}}}")
-}
-
-fn direction_word(direction: Direction) -> &'static str
-    ensures { result.now ≡ direction_word (is_opposite direction) }
-{
-    match direction {
-        Direction::Direct => "DIRECT",
-        Direction::Opposite => "OPPOSITE",
-    }
 }
